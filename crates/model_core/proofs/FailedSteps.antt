@@ -245,7 +245,7 @@ reader_on t r reader_step.Failed near = absurd near
 round_on : (v : CleanerState) → quiet_cleaner (next_in_round v)
 round_on v =
     let x : CleanerState = record v { page = cond (v.page + 1 == v.pages) 0 (v.page + 1); left = v.left - 1; kept = [] } in
-    either_one quiet_cleaner (cond (v.left == 1) true (length v.batch == 8)) (end_round x) (record x { step = cleaner_step.LoadOldest })
+    either_one quiet_cleaner (cond (v.left == 1) true (length v.batch == v.slots)) (end_round x) (record x { step = cleaner_step.LoadOldest })
     (either_one quiet_cleaner (length v.batch == 0) (record x { checks = true; step = cleaner_step.LoadFlushed }) (record x { step = cleaner_step.WriteBatch }) tt tt) tt
 
 cleaner_on : (v : CleanerState) (r : Answer) (f : CleanerStep) → cleaner_near f → quiet_cleaner (cleaner_took v r f)

@@ -8,12 +8,12 @@ use native.Mathlib.Decide.{dec_le, ℕ_discrete}
 use Rattle.model_base.specs.{IsPageSize}
 use Rattle.model_core.proofs.Groups.{back, front}
 use Rattle.model_core.proofs.Lanes.{lane_of_zero, lane_read, lane_small, lanes_are, lanes_long}
-use Rattle.model_core.proofs.PageSizes.{has_room}
+use Rattle.model_core.proofs.PageSizes.{frame_fills}
 unfoldable use Rattle.model_core.specs.Packing.{lane, lanes, packed}
 use Rattle.model_core.specs.Groups.{CellWrite}
+use Rattle.model_core.specs.Layout.{frame_words}
 use Rattle.model_core.specs.Packing.{frame_bytes, framed_page}
 use Rattle.model_core.specs.UserProgram.{put_lanes, same_word}
-use Rattle.model_core.specs.declared.limits.TheConstants.{FRAME_WORDS}
 
 -- A FRAME'S BYTE is that lane of its word
 pub frame_long : (frame : List ℕ) → length (frame_bytes frame) ≡ 8 * length frame
@@ -30,9 +30,9 @@ frame_byte (w ∷ ws) i = elim (dec_le 8 i) [
 ]
 
 -- A PAGE IN ITS FRAME has all its bytes, each in that lane of its word
-pub framed_long : (n : ℕ) (frame : List ℕ) → IsPageSize n → length frame ≡ FRAME_WORDS
+pub framed_long : (n : ℕ) (frame : List ℕ) → IsPageSize n → length frame ≡ frame_words n
     → length (framed_page n frame) ≡ n
-framed_long n frame size long = length-take-le n (frame_bytes frame) (omega (arith, frame_long frame, has_room n size))
+framed_long n frame size long = length-take-le n (frame_bytes frame) (omega (arith, frame_long frame, frame_fills n size))
 
 pub framed_byte : (n : ℕ) (frame : List ℕ) (i : ℕ) → i < n
     → slice_index (framed_page n frame) i ≡ lane (i % 8) (slice_index frame (i / 8))

@@ -192,7 +192,7 @@ closer_own t closer_step.Failed = tt
 round_none : (v : CleanerState) → of_cleaner (next_in_round v) ≡ None
 round_none v =
     let x : CleanerState = record v { page = cond (v.page + 1 == v.pages) 0 (v.page + 1); left = v.left - 1; kept = [] } in
-    pick of_cleaner None (cond (v.left == 1) true (length v.batch == 8)) (end_round x) (record x { step = cleaner_step.LoadOldest })
+    pick of_cleaner None (cond (v.left == 1) true (length v.batch == v.slots)) (end_round x) (record x { step = cleaner_step.LoadOldest })
     (pick of_cleaner None (length v.batch == 0) (record x { checks = true; step = cleaner_step.LoadFlushed }) (record x { step = cleaner_step.WriteBatch }) refl refl) refl
 
 called_none : (v : CleanerState) (r : Answer) → cleaner_hand (cleaner_took v r cleaner_step.WriteBatch) (cleaner_took v r cleaner_step.WriteBatch).step ≡ None

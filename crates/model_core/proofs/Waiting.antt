@@ -16,7 +16,6 @@ use Rattle.model_core.specs.Tails.{tail_of}
 use Rattle.model_core.specs.UserProgram.{can_close, can_link, has_passed, has_room, has_space, user_took, user_waits}
 use Rattle.model_core.specs.Waiting.{waits}
 use Rattle.model_core.specs.WriterProgram.{finds_no_more, has_log_space, stands_outside, tail_after, writer_took, writer_waits}
-use Rattle.model_core.specs.declared.limits.TheConstants.{BATCH_PAGES}
 use Rattle.model_core.specs.declared.ops.Answer.{Answer}
 use Rattle.model_core.specs.declared.steps.AdvanceStep.{AdvanceStep}
 use Rattle.model_core.specs.declared.steps.CheckpointerStep.{CheckpointerStep}
@@ -166,7 +165,7 @@ CleanerIs v s = (v.checks ≡ true) × (v.step ≡ s)
 
 -- its round ends with no page to write, and begins anew
 none_found : (v : CleanerState) → finds_none v ≡ true → CleanerIs (next_in_round v) cleaner_step.LoadFlushed
-none_found v e = by (eqb v.left 1) (eqb (length v.batch) 0) (eqb (length v.batch) BATCH_PAGES) e
+none_found v e = by (eqb v.left 1) (eqb (length v.batch) 0) (eqb (length v.batch) v.slots) e
   where
     next : CleanerState
     next = record v { page = cond (eqb (v.page + 1) v.pages) 0 (v.page + 1); left = v.left - 1; kept = [] }

@@ -11,7 +11,7 @@ use Rattle.model_core.specs.declared.words.Word.TheVariants as word
 use Rattle.model_core.specs.declared.ops.Op.TheVariants as op
 use Rattle.model_core.specs.declared.ops.Step.TheVariants as step
 use Rattle.model_core.specs.declared.steps.CleanerStep.TheVariants as cleaner_step
-use Rattle.model_core.specs.declared.limits.TheConstants.{FLUSH_LISTS, BATCH_PAGES, WORD_LANES}
+use Rattle.model_core.specs.declared.limits.TheConstants.{FLUSH_LISTS, WORD_LANES}
 unfoldable use Rattle.model_core.specs.Packing.{lanes}
 
 abbrev pub no_page : BatchPage
@@ -42,7 +42,7 @@ end_round v = cond (length v.batch == 0) (record v { checks = true; step = clean
 
 -- it goes on to the next page
 abbrev pub next_in_round : CleanerState → CleanerState
-next_in_round v = cond (cond (v.left == 1) true (length v.batch == BATCH_PAGES))
+next_in_round v = cond (cond (v.left == 1) true (length v.batch == v.slots))
     (end_round (record v { page = cond (v.page + 1 == v.pages) 0 (v.page + 1); left = v.left - 1; kept = [] }))
     (record v { page = cond (v.page + 1 == v.pages) 0 (v.page + 1); left = v.left - 1; kept = []; step = cleaner_step.LoadOldest })
 

@@ -1,5 +1,5 @@
 -- The flush lists: pages with the lsns since which they wait to be written, in the order in which they were added.
-use Rattle.std.specs.Prelude.{List, None, Option, Some, [], cond, ℕ, ◌++◌, ◌+◌, ◌==◌, ◌∷◌}
+use Rattle.std.specs.Prelude.{List, None, Option, Some, [], cond, ℕ, ◌++◌, ◌==◌, ◌∷◌}
 
 pub record Listed : Type 0 where
   pub page : ℕ

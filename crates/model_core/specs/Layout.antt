@@ -1,11 +1,33 @@
 -- Where each word stands in the list of words.
-use Rattle.std.specs.Prelude.{Bool, List, [], ℕ, ◌*◌, ◌++◌, ◌+◌, ◌∷◌}
+use Rattle.std.specs.Prelude.{Bool, List, [], ℕ, ◌*◌, ◌++◌, ◌+◌, ◌/◌, ◌∷◌}
 use Rattle.model_core.specs.Tails.{tail_word}
+use Rattle.model_core.specs.declared.words.Layout.{Layout}
 use Rattle.model_core.specs.declared.words.Word.{Word}
 use Rattle.model_core.specs.declared.words.Word.TheVariants as word
-use Rattle.model_core.specs.declared.limits.TheConstants.{BUFFER_BLOCKS, BUFFER_WORDS, WRITTEN_LINKS, CLOSED_LINKS, FLUSH_LISTS, FRAME_WORDS, READERS}
+use Rattle.model_core.specs.declared.limits.TheConstants.{BUFFER_BLOCKS, BUFFER_WORDS, WRITTEN_LINKS, CLOSED_LINKS, FLUSH_LISTS, READERS, WORD_LANES}
 
--- where each kind of word begins
+-- where each word stands of which there is one, and where each kind of word begins
+abbrev pub sn_at : ℕ
+sn_at = 0
+
+abbrev pub write_at : ℕ
+write_at = 1
+
+abbrev pub wtail_at : ℕ
+wtail_at = 2
+
+abbrev pub flushed_at : ℕ
+flushed_at = 3
+
+abbrev pub ckpt_at : ℕ
+ckpt_at = 4
+
+abbrev pub ctail_at : ℕ
+ctail_at = 5
+
+abbrev pub failed_at : ℕ
+failed_at = 6
+
 abbrev pub device_at : ℕ
 device_at = 7
 
@@ -30,32 +52,35 @@ places_at = firsts_at + BUFFER_BLOCKS
 abbrev pub pages_at : ℕ
 pages_at = places_at + READERS
 
--- among a page's words, where its frame begins; and how many words a page has
+-- among a page's words, where its frame begins; how many words the frame of a page of so many bytes has, and how many a page
 abbrev pub frame_at : ℕ
 frame_at = 3
 
-abbrev pub page_stride : ℕ
-page_stride = frame_at + FRAME_WORDS
+abbrev pub frame_words : ℕ → ℕ
+frame_words page_size = page_size / WORD_LANES
 
-abbrev pub index : Word → ℕ
-index word.Sn = 0
-index word.Write = 1
-index word.Wtail = 2
-index word.Flushed = 3
-index word.Ckpt = 4
-index word.Ctail = 5
-index word.Failed = 6
-index word.Device = 7
-index (word.List i) = lists_at + i
-index (word.Wlink i) = written_links_at + i
-index (word.Clink i) = closed_links_at + i
-index (word.Cell i) = cells_at + i
-index (word.First i) = firsts_at + i
-index (word.Place i) = places_at + i
-index (word.Latch p) = pages_at + p * page_stride
-index (word.Newest p) = pages_at + (p * page_stride + 1)
-index (word.Oldest p) = pages_at + (p * page_stride + 2)
-index (word.Frame p i) = pages_at + (p * page_stride + (frame_at + i))
+abbrev pub page_stride : Layout → ℕ
+page_stride layout = frame_at + frame_words layout.page_size
+
+abbrev pub index : Layout → Word → ℕ
+index layout word.Sn = sn_at
+index layout word.Write = write_at
+index layout word.Wtail = wtail_at
+index layout word.Flushed = flushed_at
+index layout word.Ckpt = ckpt_at
+index layout word.Ctail = ctail_at
+index layout word.Failed = failed_at
+index layout word.Device = device_at
+index layout (word.List i) = lists_at + i
+index layout (word.Wlink i) = written_links_at + i
+index layout (word.Clink i) = closed_links_at + i
+index layout (word.Cell i) = cells_at + i
+index layout (word.First i) = firsts_at + i
+index layout (word.Place i) = places_at + i
+index layout (word.Latch p) = pages_at + p * page_stride layout
+index layout (word.Newest p) = pages_at + (p * page_stride layout + 1)
+index layout (word.Oldest p) = pages_at + (p * page_stride layout + 2)
+index layout (word.Frame p i) = pages_at + (p * page_stride layout + (frame_at + i))
 
 -- a page's words
 pub record PageWords : Type 0 where

@@ -64,7 +64,7 @@ pub use Rattle.model_core.specs.Stream.{IsBound, IsLent, Tiles, byte_at, crosses
 pub use Rattle.model_core.specs.Lanes.{cell_of, lane_of, left_in_word}
 pub use Rattle.model_core.specs.Packing.{frame_bytes, framed_page, byte_in}
 unfoldable pub use Rattle.model_core.specs.Packing.{lane, lanes, packed}
-pub use Rattle.model_core.specs.Layout.{PageWords, SharedWords, cells_at, closed_links_at, firsts_at, flat, flat_page_words, index, page_stride, pages_at, rows}
+pub use Rattle.model_core.specs.Layout.{PageWords, SharedWords, cells_at, ckpt_at, closed_links_at, firsts_at, flat, flat_page_words, flushed_at, frame_words, index, page_stride, pages_at, rows, sn_at, write_at, wtail_at}
 pub use Rattle.model_core.specs.Sizes.{IsSized, blank_words, page_words_at}
 pub use Rattle.model_core.specs.NamedWords.{IsWord, read, with_page_words, word_count, wrote}
 pub use Rattle.model_core.specs.Lsn.{ceiling, floor}
@@ -73,7 +73,7 @@ pub use Rattle.model_core.specs.NewActors.{new_checkpointer, new_cleaner, new_cl
 pub use Rattle.model_core.specs.Program.{checked, entries_from, entry, filled, Fills, is_checking, lent, next, own_op, own_took, took}
 pub use Rattle.model_core.specs.Reserving.{entries, log_left, phase_log}
 pub use Rattle.model_core.specs.ReaderProgram.{AreInFront, archived, archives, block_end, Filling, followed, has_all, is_none, IsText, joined_texts, next_block, next_mark, next_piece, pending, placed_at, read_to, reader_ending, reader_op, reader_program, reader_took, reader_waits, to_append}
-pub use Rattle.model_core.specs.Setup.{IsScripted}
+pub use Rattle.model_core.specs.Setup.{IsScripted, layout_of}
 pub use Rattle.model_core.specs.States.{Advance, BatchPage, CheckpointerState, CleanerState, CloserState, FlusherState, Given, Line, LoadedMarks, ReaderState, UserState, WriterState, no_advance, none_loaded}
 pub use Rattle.model_core.specs.Tails.{is_held, tail_of, tail_word}
 pub use Rattle.model_core.specs.Turn.{Core, DataServed, LogServed, OwnServed, list_word}

@@ -8,6 +8,7 @@ use Rattle.model_core.specs.declared.ops.Op.{Op}
 use Rattle.model_core.specs.declared.ops.Op.TheVariants as op
 use Rattle.model_core.specs.declared.ops.Answer.TheVariants as answer
 use Rattle.model_core.specs.declared.limits.TheConstants.{FLUSH_LISTS}
+use Rattle.model_core.specs.declared.words.Layout.{Layout}
 use Rattle.model_core.specs.WordTurn.{list_answer}
 
 -- an Op on a word, over the words by name
@@ -33,15 +34,15 @@ OnWord (op.Add w k) = Unit {0}
 OnWord (op.Swap w a b) = Unit {0}
 OnWord _ = ⊥
 
--- the words and lists that it names are those of a store of so many pages
-abbrev pub OpWords : ℕ → Op → Type 0
-OpWords pages (op.Load w) = IsWord pages w
-OpWords pages (op.Store w x) = IsWord pages w
-OpWords pages (op.Add w k) = IsWord pages w
-OpWords pages (op.Swap w a b) = IsWord pages w
-OpWords pages (op.TakeOldest i) = i < FLUSH_LISTS
-OpWords pages (op.GiveList i) = i < FLUSH_LISTS
-OpWords pages _ = Unit {0}
+-- the words and lists that it names are those of the store
+abbrev pub OpWords : Layout → Op → Type 0
+OpWords layout (op.Load w) = IsWord layout w
+OpWords layout (op.Store w x) = IsWord layout w
+OpWords layout (op.Add w k) = IsWord layout w
+OpWords layout (op.Swap w a b) = IsWord layout w
+OpWords layout (op.TakeOldest i) = i < FLUSH_LISTS
+OpWords layout (op.GiveList i) = i < FLUSH_LISTS
+OpWords layout _ = Unit {0}
 
 -- the words by name after any Op
 abbrev pub shared_left : SharedWords → Op → SharedWords

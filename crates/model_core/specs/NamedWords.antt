@@ -1,29 +1,30 @@
 -- Which words a store has, and one of them read and written by name.
 use Rattle.std.specs.Prelude.{slice_index, slice_set, ℕ, ◌*◌, ◌+◌, ◌<◌}
 use Rattle.model_core.specs.Tails.{is_held, tail_of, tail_word}
+use Rattle.model_core.specs.declared.words.Layout.{Layout}
 use Rattle.model_core.specs.declared.words.Word.{Word}
 use Rattle.model_core.specs.declared.words.Word.TheVariants as word
-use Rattle.model_core.specs.declared.limits.TheConstants.{BUFFER_BLOCKS, BUFFER_WORDS, WRITTEN_LINKS, CLOSED_LINKS, FLUSH_LISTS, FRAME_WORDS, READERS}
-use Rattle.model_core.specs.Layout.{page_stride, pages_at, PageWords, SharedWords}
+use Rattle.model_core.specs.declared.limits.TheConstants.{BUFFER_BLOCKS, BUFFER_WORDS, WRITTEN_LINKS, CLOSED_LINKS, FLUSH_LISTS, READERS}
+use Rattle.model_core.specs.Layout.{frame_words, page_stride, pages_at, PageWords, SharedWords}
 use Rattle.model_core.specs.Sizes.{page_words_at}
 
--- how many words a store of so many pages has
-abbrev pub word_count : ℕ → ℕ
-word_count pages = pages_at + pages * page_stride
+-- how many words a store has
+abbrev pub word_count : Layout → ℕ
+word_count layout = pages_at + layout.pages * page_stride layout
 
--- the word is one of a store of so many pages
-abbrev pub IsWord : ℕ → Word → Type 0
-IsWord pages (word.List i) = i < FLUSH_LISTS
-IsWord pages (word.Wlink i) = i < WRITTEN_LINKS
-IsWord pages (word.Clink i) = i < CLOSED_LINKS
-IsWord pages (word.Cell i) = i < BUFFER_WORDS
-IsWord pages (word.First i) = i < BUFFER_BLOCKS
-IsWord pages (word.Place i) = i < READERS
-IsWord pages (word.Latch p) = p < pages
-IsWord pages (word.Newest p) = p < pages
-IsWord pages (word.Oldest p) = p < pages
-IsWord pages (word.Frame p i) = (p < pages) × (i < FRAME_WORDS)
-IsWord pages _ = Unit {0}
+-- the word is one of the store's
+abbrev pub IsWord : Layout → Word → Type 0
+IsWord layout (word.List i) = i < FLUSH_LISTS
+IsWord layout (word.Wlink i) = i < WRITTEN_LINKS
+IsWord layout (word.Clink i) = i < CLOSED_LINKS
+IsWord layout (word.Cell i) = i < BUFFER_WORDS
+IsWord layout (word.First i) = i < BUFFER_BLOCKS
+IsWord layout (word.Place i) = i < READERS
+IsWord layout (word.Latch p) = p < layout.pages
+IsWord layout (word.Newest p) = p < layout.pages
+IsWord layout (word.Oldest p) = p < layout.pages
+IsWord layout (word.Frame p i) = (p < layout.pages) × (i < frame_words layout.page_size)
+IsWord layout _ = Unit {0}
 
 abbrev pub read : SharedWords → Word → ℕ
 read m word.Sn = m.sn

@@ -56,10 +56,11 @@ new_flusher start = record { last = start; write = 0; mark = 0; code = 0; checks
 abbrev pub new_closer : CloserState
 new_closer = record { advance = no_advance; code = 0; checks = false; step = closer_step.Advance advance_step.LoadTail }
 
-abbrev pub new_cleaner : ℕ → ℕ → CleanerState
-new_cleaner pages page_size = record {
+abbrev pub new_cleaner : ℕ → ℕ → ℕ → CleanerState
+new_cleaner pages page_size slots = record {
   pages = pages;
   page_size = page_size;
+  slots = slots;
   flushed = 0;
   page = 0;
   left = 0;

@@ -1,5 +1,5 @@
 -- The groups that an actor has reserved, and the history after its step.
-use Rattle.std.specs.Prelude.{List, [], cond, ℕ, ◌++◌, ◌+◌, ◌∷◌}
+use Rattle.std.specs.Prelude.{List, [], cond, ℕ, ◌++◌, ◌∷◌}
 use Rattle.model_core.specs.Actors.{Actor}
 use Rattle.model_core.specs.Groups.{Entry}
 use Rattle.model_core.specs.States.{UserState}

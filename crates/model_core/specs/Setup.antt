@@ -5,14 +5,17 @@ use Rattle.model_core.specs.Groups.{KeptPage, PageChange}
 use Rattle.model_core.specs.States.{Line}
 use Rattle.model_core.specs.UserProgram.{change_at, line_at}
 use Rattle.model_core.specs.ReaderProgram.{IsText}
+use Rattle.model_core.specs.declared.words.Layout.{Layout}
 use Rattle.model_core.specs.declared.limits.TheConstants.{READERS}
 
--- the sn of the run's start, the blocks of the log's ring, the pages and their size, whether the log runs alone, and the lines of each user
+-- the sn of the run's start, the blocks of the log's ring, the pages and their size, how many of
+-- them the cleaner writes at once at most, whether the log runs alone, and the lines of each user
 pub record Setup : Type 0 where
   pub base : ℕ
   pub blocks : ℕ
   pub pages : ℕ
   pub page_size : ℕ
+  pub slots : ℕ
   pub log_only : Bool
   pub script : ℕ → List Line
   -- each page as the run found it
@@ -26,12 +29,18 @@ pub record Setup : Type 0 where
   pub last_reader : ℕ
   pub reader_at : ℕ → ℕ
 
+-- which words there are
+abbrev pub layout_of : Setup → Layout
+layout_of c = record { pages = c.pages; page_size = c.page_size }
+
 -- Which pages the lines name: with the log alone none; else each line names pages of the store, at least one.
 pub record IsScripted (c : Setup) : Type 0 where
   pub alone : c.log_only ≡ true → (user j : ℕ) → ◌≡◌ {A = List PageChange} (line_at (c.script user) j).changes []
   pub some_page : c.log_only ≡ false → (user j : ℕ) → j < length (c.script user) → 0 < length (line_at (c.script user) j).changes
   pub there : (user j k : ℕ) → k < length (line_at (c.script user) j).changes → (change_at (line_at (c.script user) j).changes k).page < c.pages
   pub page_size : IsPageSize c.page_size
+  -- the cleaner writes at least one at once
+  pub slots : 1 ≤ c.slots
   -- each page once, and bytes of it
   pub apart : (user j i k : ℕ) → i < k → k < length (line_at (c.script user) j).changes → (change_at (line_at (c.script user) j).changes i).page ≢ (change_at (line_at (c.script user) j).changes k).page
   pub within : (user j k i : ℕ) → k < length (line_at (c.script user) j).changes → (get_or (change_at (line_at (c.script user) j).changes k).cells i (record { at = 0; value = 0 })).at < c.page_size

@@ -4,7 +4,7 @@ use Rattle.model_core.specs.Packing.{framed_page}
 use Rattle.model_core.specs.Layout.{PageWords, SharedWords}
 use Rattle.model_core.specs.Sizes.{IsSized, page_words_at}
 use Rattle.model_core.specs.Lsn.{lsn}
-use Rattle.model_core.specs.Setup.{Setup}
+use Rattle.model_core.specs.Setup.{Setup, layout_of}
 use Rattle.model_core.specs.declared.limits.TheConstants.{BUFFER_BLOCKS, READERS}
 use Rattle.model_log.specs.declared.layout.TheConstants.{BLOCK_DATA, BLOCK_HEADER}
 
@@ -14,7 +14,7 @@ start_checkpoint c = lsn c.base - BLOCK_HEADER
 
 -- the words of the log: nothing is written, linked or held
 pub record StartWords (c : Setup) (m : SharedWords) : Type 0 where
-  pub sized : IsSized c.pages m
+  pub sized : IsSized (layout_of c) m
   pub even : c.base % BLOCK_DATA ≡ 0
   pub sn : m.sn ≡ c.base
   pub write : m.write ≡ lsn c.base

@@ -99,11 +99,12 @@ pub record BatchPage : Type 0 where
   pub lsn : ℕ
   pub bytes : List ℕ
 
--- The cleaner. `flushed` is the round's loaded FLUSHED; `page` is looked at now, and `left` pages with it are left in the
+-- The cleaner. A batch has at most `slots` pages. `flushed` is the round's loaded FLUSHED; `page` is looked at now, and `left` pages with it are left in the
 -- round; of the page latched now, `newest` is loaded and `kept` are its first bytes.
 pub record CleanerState : Type 0 where
   pub pages : ℕ
   pub page_size : ℕ
+  pub slots : ℕ
   pub flushed : ℕ
   pub page : ℕ
   pub left : ℕ

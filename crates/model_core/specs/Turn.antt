@@ -14,6 +14,7 @@ use Rattle.model_core.specs.declared.ops.Answer.{Answer}
 use Rattle.model_core.specs.declared.ops.Op.{Op}
 use Rattle.model_core.specs.declared.ops.Op.TheVariants as op
 use Rattle.model_core.specs.Layout.{lists_at}
+use Rattle.model_core.specs.declared.words.Layout.{Layout}
 use Rattle.model_core.specs.Waiting.{step_of}
 use Rattle.model_core.specs.declared.ops.Step.{Step}
 
@@ -45,8 +46,9 @@ abbrev pub OwnServed : Op → ℕ → Type 0
 OwnServed (op.Append x) code = (code ≡ 0) ⊎ IsArchiveCode code
 OwnServed o code = Unit {0}
 
--- the state of a running store: the words, both parts, the flush lists, the actors
+-- the state of a running store: which words there are, and the words, both parts, the flush lists, the actors
 pub record Core (D : LogSide) (E : DataSide) : Type 0 where
+  pub layout : Layout
   pub words : List ℕ
   pub log_part : D.Part
   pub data_part : E.Part
@@ -70,8 +72,9 @@ pub record Turn (D : LogSide) (E : DataSide) (old : Core D E) (seat : ℕ) (answ
   pub log_served : LogServed D old.log_part (lent (filled who filling)) (next who) code new.log_part
   pub data_served : DataServed E old.data_part (lent (filled who filling)) (next who) code new.data_part
   pub own_served : OwnServed (next who) code
-  pub words : new.words ≡ words_left old.words (next who)
+  pub layout : new.layout ≡ old.layout
+  pub words : new.words ≡ words_left old.layout old.words (next who)
   pub lists : new.lists ≡ lists_left old.lists (list_word old.words) (next who)
-  pub answered : answer ≡ answer_of old.lists (D.failed old.log_part) code (D.stable new.log_part) old.words (next who)
+  pub answered : answer ≡ answer_of old.layout old.lists (D.failed old.log_part) code (D.stable new.log_part) old.words (next who)
   pub actors : new.actors ≡ slice_set old.actors seat (took (filled who filling) answer)
   pub ends : step ≡ step_of (filled who filling) answer

@@ -11,13 +11,14 @@ ghost use Rattle.model_core.specs.Holding.{IsFreeing, HasStopped};
 ghost use Rattle.model_core.specs.WordTurn.{answer_of, words_left};
 ghost use Rattle.model_core.specs.declared.ops.Answer.{Answer};
 ghost use Rattle.model_core.specs.declared.ops.Op.TheVariants as op;
+ghost use Rattle.model_core.specs.declared.words.Layout.{Layout};
 ghost use Rattle.model_core.specs.declared.words.LinkBuffer.{LinkBuffer};
 ghost use Rattle.model_core.specs.declared.words.Word.{Word};
 
 /// The words of a store have numbers below their count.
 #[tactic(auto, using(crate::proofs::WordNumbers::index_below))]
 pub fn words_are_numbered()
-    ensures { (pages : ℕ) (w : Word) → IsWord pages w → index w < word_count pages }
+    ensures { (layout : Layout) (w : Word) → IsWord layout w → index layout w < word_count layout }
 {}
 
 /// An actor that waits loads FAILED next.
@@ -30,9 +31,9 @@ pub fn a_wait_leads_to_a_check()
 /// advance which finds no link frees its tail. A user or the closer then stores the tail that it has loaded.
 #[tactic(auto, using(crate::proofs::WaitingWords::wait_words))]
 pub fn a_wait_changes_no_word()
-    ensures { (lists : ℕ → List Listed) (broken : Bool) (code mark : ℕ) (words : List ℕ) (a : Actor)
-        → waits a (answer_of lists broken code mark words (own_op a)) ≡ true
-        → (words_left words (own_op a) ≡ words) ⊎ IsFreeing a }
+    ensures { (layout : Layout) (lists : ℕ → List Listed) (broken : Bool) (code mark : ℕ) (words : List ℕ) (a : Actor)
+        → waits a (answer_of layout lists broken code mark words (own_op a)) ≡ true
+        → (words_left layout words (own_op a) ≡ words) ⊎ IsFreeing a }
 {}
 
 /// An actor that has ended asks for nothing, and stays as it is.

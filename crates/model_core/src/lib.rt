@@ -16,8 +16,8 @@ pub use laws::{
     an_ended_actor_holds_no_tail, an_ended_actor_rests, words_are_numbered,
 };
 pub use limits::{
-    ADVANCE_PLACES, BATCH_PAGES, BUFFER_BLOCKS, BUFFER_WORDS, CLOSED_LINKS, FLUSH_LISTS,
-    FRAME_CELLS, FRAME_WORDS, FREE_MARGIN, LOG_BUFFER, READERS, WORD_LANES, WRITTEN_LINKS,
+    ADVANCE_PLACES, BUFFER_BLOCKS, BUFFER_WORDS, CLOSED_LINKS, FLUSH_LISTS, FREE_MARGIN,
+    LOG_BUFFER, READERS, WORD_LANES, WRITTEN_LINKS,
 };
 pub use ops::{Answer, Op, Step};
 pub use steps::{

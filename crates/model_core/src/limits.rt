@@ -19,11 +19,5 @@ pub const ADVANCE_PLACES: u64 = 32_768;
 pub const FREE_MARGIN: u64 = 278_528;
 /// Flush lists. A page stands in the list of its number modulo this.
 pub const FLUSH_LISTS: u64 = 4;
-/// Cells of a page's frame: one for each byte of the longest page.
-pub const FRAME_CELLS: u64 = 4_096;
-/// Words of a page's frame.
-pub const FRAME_WORDS: u64 = FRAME_CELLS / WORD_LANES;
 /// Readers of the log there may be: the archiver, and four followers.
 pub const READERS: u64 = 5;
-/// The most pages that the cleaner writes at once.
-pub const BATCH_PAGES: u64 = 8;

@@ -51,8 +51,9 @@ pub enum LinkBuffer {
     Closed,
 }
 
-/// Which words there are: those of a store of so many pages.
+/// Which words there are: those of a store of so many pages of a size in bytes.
 #[derive(Clone, Copy, Debug, PartialEq, Eq)]
 pub struct Layout {
     pub pages: u32,
+    pub page_size: u32,
 }

@@ -5,7 +5,7 @@ use Rattle.std.specs.Prelude.{slice_index}
 use lib.ListN.{get_elem?}
 use mathlib.Core.Option.{some}
 use Rattle.model_core.proofs.Lists.{set_at}
-use Rattle.model_core.specs.{Actor, answer_of, Core, DataServed, filled, Filling, flat, lent, list_word, Listed, lists_left, log_left, LogServed, next, OwnServed, shared_answer, shared_left, SharedWords, took, words_left}
+use Rattle.model_core.specs.{Actor, answer_of, Core, DataServed, filled, Filling, flat, layout_of, lent, list_word, Listed, lists_left, log_left, LogServed, next, OwnServed, shared_answer, shared_left, SharedWords, took, words_left}
 use Rattle.model_core.specs.DataSide.{DataSide}
 use Rattle.model_core.specs.LogSide.{LogSide}
 use Rattle.model_core.specs.Setup.{Setup}
@@ -24,6 +24,7 @@ use Rattle.model_running.proofs.Turns.{next_words}
 use Rattle.model_running.specs.RunningStore.{BothHalves}
 use Rattle.model_ends.proofs.States.{lists_same}
 use Rattle.model_ends.specs.Alone.{CanReach}
+use Rattle.model_core.specs.declared.words.Layout.{Layout}
 use Rattle.model_core.specs.declared.words.Word.TheVariants as word
 
 module _ (D : LogSide) (E : DataSide) (c : Setup) (P : SharedWords → (ℕ → List Listed) → D.Part → E.Part → List Actor → Type 0) where
@@ -32,6 +33,7 @@ module _ (D : LogSide) (E : DataSide) (c : Setup) (P : SharedWords → (ℕ → 
     pub words : SharedWords
     pub log_ghost : LogGhost
     pub page_ghost : PageGhost
+    pub layout_is : s.layout ≡ layout_of c
     pub flat_is : s.words ≡ flat words
     pub both : BothHalves D E c words log_ghost page_ghost s.lists s.log_part s.data_part s.actors
     pub holds : P words s.lists s.log_part s.data_part s.actors
@@ -76,12 +78,14 @@ module _ (D : LogSide) (E : DataSide) (c : Setup) (P : SharedWords → (ℕ → 
       after = shared_left m (next who)
 
       abbrev answers : List ℕ → Op → Answer
-      answers ws o = answer_of old.lists (D.failed old.log_part) t.code (D.stable new.log_part) ws o
+      answers ws o = answer_of old.layout old.lists (D.failed old.log_part) t.code (D.stable new.log_part) ws o
 
       said_is : ◌≡◌ {A = Answer} said answer
       said_is =
           let w = next_words D E c m S.log_ghost S.page_ghost old.lists old.log_part old.data_part they seat both_filled who at in
-          sym (ap (λ (z : List ℕ). answers z (next who)) S.flat_is ∙ flat_answer c.pages m S.both.logged.sized old.lists (D.failed old.log_part) t.code (D.stable new.log_part) (next who) w) ∙ ap {B = Answer} (λ (o : Op). answers old.words o) same_op ∙ sym t.answered
+          sym (ap (λ (z : List ℕ). answers z (next who)) S.flat_is
+          ∙ ap (λ (l : Layout). answer_of l old.lists (D.failed old.log_part) t.code (D.stable new.log_part) (flat m) (next who)) S.layout_is
+          ∙ flat_answer (layout_of c) m S.both.logged.sized old.lists (D.failed old.log_part) t.code (D.stable new.log_part) (next who) w) ∙ ap {B = Answer} (λ (o : Op). answers old.words o) same_op ∙ sym t.answered
 
       pub actors_then : ◌≡◌ {A = List Actor} (set they seat (took who said)) new.actors
       actors_then = ap (λ (r : Answer). set they seat (took who r)) said_is ∙ set-set old.actors seat who (took who answer) ∙ sym t.actors
@@ -89,11 +93,12 @@ module _ (D : LogSide) (E : DataSide) (c : Setup) (P : SharedWords → (ℕ → 
       pub words_then : new.words ≡ flat after
       words_then =
           let w = next_words D E c m S.log_ghost S.page_ghost old.lists old.log_part old.data_part they seat both_filled who at in
-          t.words ∙ ap (words_left old.words) (sym same_op) ∙ ap (λ (z : List ℕ). words_left z (next who)) S.flat_is ∙ flat_left c.pages m S.both.logged.sized (next who) w
+          t.words ∙ ap (words_left old.layout old.words) (sym same_op) ∙ ap (λ (z : List ℕ). words_left old.layout z (next who)) S.flat_is
+          ∙ ap (λ (l : Layout). words_left l (flat m) (next who)) S.layout_is ∙ flat_left (layout_of c) m S.both.logged.sized (next who) w
 
       pub lists_then : ◌≡◌ {A = ℕ → List Listed} (lists_left old.lists (λ i. slice_index m.lists i) (next who)) new.lists
       lists_then = lists_same old.lists (λ i. slice_index m.lists i) (list_word old.words)
-          (λ i l. sym (ap (λ (ws : List ℕ). slice_index ws (8 + i)) S.flat_is ∙ flat_read c.pages m S.both.logged.sized (word.List i) l)) (next who)
+          (λ i l. sym (ap (λ (ws : List ℕ). slice_index ws (8 + i)) S.flat_is ∙ flat_read (layout_of c) m S.both.logged.sized (word.List i) l)) (next who)
           ∙ ap {B = ℕ → List Listed} (λ (o : Op). lists_left old.lists (list_word old.words) o) same_op ∙ sym t.lists
 
       pub both_left : BothLeft D E c after (lists_left old.lists (λ i. slice_index m.lists i) (next who)) new.log_part new.data_part (set they seat (took who said)) (log_left S.log_ghost.log m.sn who)
@@ -108,6 +113,7 @@ module _ (D : LogSide) (E : DataSide) (c : Setup) (P : SharedWords → (ℕ → 
         words = after;
         log_ghost = both_left.log_ghost;
         page_ghost = both_left.page_ghost;
+        layout_is = t.layout ∙ S.layout_is;
         flat_is = words_then;
         both = subst (λ (rs : List Actor). BothHalves D E c after both_left.log_ghost both_left.page_ghost new.lists new.log_part new.data_part rs) actors_then
             (subst (λ (ls : ℕ → List Listed). BothHalves D E c after both_left.log_ghost both_left.page_ghost ls new.log_part new.data_part (set they seat (took who said))) lists_then both_left.both);

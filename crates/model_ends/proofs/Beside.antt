@@ -9,7 +9,7 @@ use native.Mathlib.Decide.{ℕ_discrete}
 use Rattle.model_base.specs.declared.limits.TheConstants.{BLOCK_SIZE, LSN_LIMIT, MIN_LOG_BLOCKS}
 use Rattle.model_core.proofs.Later.{took_later}
 use Rattle.model_core.proofs.Lists.{at_set, set_at, set_else}
-use Rattle.model_core.specs.{Actor, change_at, CheckpointerState, CleanerState, CloserState, Core, filled, Filling, flat, FlusherState, has_log_space, Line, line_at, Listed, lsn, next, ReaderState, shared_answer, SharedWords, took, UserState, WriterState}
+use Rattle.model_core.specs.{Actor, change_at, CheckpointerState, CleanerState, CloserState, Core, filled, Filling, flat, layout_of, FlusherState, has_log_space, Line, line_at, Listed, lsn, next, ReaderState, shared_answer, SharedWords, took, UserState, WriterState}
 use Rattle.model_core.specs.Hands.{hand, IsFreeToCheck, user_hand}
 use Rattle.model_core.specs.Later.{IsSameActor}
 use Rattle.model_core.specs.ReaderProgram.{reader_filled}
@@ -163,7 +163,7 @@ module _ (D : LogSide) (E : DataSide) (c : Setup) where
   }
 
   -- AS A RUN STARTS
-  module _ (L : LogLaws D) (EL : DataLaws E) (words : SharedWords) (seat_of : ℕ → ℕ) (writer : ℕ) (first : Core D E) (S : StartStore D E c words first.log_part first.data_part seat_of writer first.actors) (flat_is : first.words ≡ flat words) (lists : ◌≡◌ {A = ℕ → List Listed} first.lists (λ _. []))
+  module _ (L : LogLaws D) (EL : DataLaws E) (words : SharedWords) (seat_of : ℕ → ℕ) (writer : ℕ) (first : Core D E) (S : StartStore D E c words first.log_part first.data_part seat_of writer first.actors) (layout_is : first.layout ≡ layout_of c) (flat_is : first.words ≡ flat words) (lists : ◌≡◌ {A = ℕ → List Listed} first.lists (λ _. []))
       (short : lsn (c.base + sum_over_actors left_to_reserve first.actors) < LSN_LIMIT) (few : sum_over_actors is_user first.actors ≤ 16) (long : MIN_LOG_BLOCKS ≤ c.blocks) (ascend : (user : ℕ) → Ascend (c.script user)) where
     no_pledge : (seat : ℕ) (a : Actor) → StartActor c seat_of writer seat a → pledge a ≤ 0
     no_pledge seat (actor.User u) h = let z = ap (user_pledge u) (new_user_is c u h.1).step in omega arith
@@ -232,6 +232,7 @@ module _ (D : LogSide) (E : DataSide) (c : Setup) where
       words = words;
       log_ghost = start D c words first.log_part seat_of writer S.words S.log_part;
       page_ghost = start_pages c;
+      layout_is = layout_is;
       flat_is = flat_is;
       both = subst (λ (ls : ℕ → List Listed). BothHalves D E c words (start D c words first.log_part seat_of writer S.words S.log_part) (start_pages c) ls first.log_part first.data_part first.actors) (sym lists)
           (both_start D E c words first.log_part first.data_part seat_of writer first.actors S short);

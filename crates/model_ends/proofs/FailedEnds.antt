@@ -4,7 +4,7 @@ use Rattle.std.proofs.Common.{List, [], ap, arith, drop, length, length-set, ref
 use Rattle.std.proofs.Math.Nat.{mul-le-mul_right}
 use Rattle.std.specs.Prelude.{slice_index}
 use Rattle.model_base.specs.declared.limits.TheConstants.{LSN_LIMIT}
-use Rattle.model_core.specs.{Actor, Core, filled, flat, Line, Listed, lsn, next, PageWords, page_words_at, SharedWords, shared_answer, took}
+use Rattle.model_core.specs.{Actor, Core, filled, flat, layout_of, Line, Listed, lsn, next, PageWords, page_words_at, SharedWords, shared_answer, took}
 use Rattle.model_core.specs.DataSide.{DataSide}
 use Rattle.model_core.specs.LogSide.{LogSide}
 use Rattle.model_core.specs.Setup.{Setup}
@@ -18,7 +18,7 @@ use Rattle.model_pagecore.specs.DataLaws.{DataLaws}
 use Rattle.model_running.proofs.StartRunning.{both_start, start_pages}
 use Rattle.model_running.specs.RunningStore.{BothHalves}
 use Rattle.model_running.specs.PlainStore.{plain_store}
-use Rattle.model_running.specs.Schedule.{IsSpent, TakesTurns}
+use Rattle.model_running.specs.Schedule.{TakesTurns}
 use Rattle.model_running.specs.StartStore.{StartStore}
 use Rattle.model_ends.proofs.Along.{Along, EachTurnKeeps, reach_along}
 use Rattle.model_ends.proofs.FailedRuns.{failed_run_ends, Failing}
@@ -70,7 +70,7 @@ module _ (D : LogSide) (E : DataSide) (c : Setup) (L : LogLaws D) (EL : DataLaws
     );
   }
 
-module _ (D : LogSide) (E : DataSide) (c : Setup) (L : LogLaws D) (EL : DataLaws E) (words : SharedWords) (seat_of : ℕ → ℕ) (writer : ℕ) (first : Core D E) (S : StartStore D E c words first.log_part first.data_part seat_of writer first.actors) (flat_is : first.words ≡ flat words) (lists : ◌≡◌ {A = ℕ → List Listed} first.lists (λ _. []))
+module _ (D : LogSide) (E : DataSide) (c : Setup) (L : LogLaws D) (EL : DataLaws E) (words : SharedWords) (seat_of : ℕ → ℕ) (writer : ℕ) (first : Core D E) (S : StartStore D E c words first.log_part first.data_part seat_of writer first.actors) (layout_is : first.layout ≡ layout_of c) (flat_is : first.words ≡ flat words) (lists : ◌≡◌ {A = ℕ → List Listed} first.lists (λ _. []))
     (short : lsn (c.base + sum_over_actors left_to_reserve first.actors) < LSN_LIMIT) where
   abbrev pub most : ℕ
   most = sum_over_actors script_steps first.actors
@@ -104,6 +104,7 @@ module _ (D : LogSide) (E : DataSide) (c : Setup) (L : LogLaws D) (EL : DataLaws
     words = words;
     log_ghost = start D c words first.log_part seat_of writer S.words S.log_part;
     page_ghost = start_pages c;
+    layout_is = layout_is;
     flat_is = flat_is;
     both = subst (λ (ls : ℕ → List Listed). BothHalves D E c words (start D c words first.log_part seat_of writer S.words S.log_part) (start_pages c) ls first.log_part first.data_part first.actors) (sym lists)
         (both_start D E c words first.log_part first.data_part seat_of writer first.actors S short);
@@ -116,7 +117,7 @@ module _ (D : LogSide) (E : DataSide) (c : Setup) (L : LogLaws D) (EL : DataLaws
       let A = reach_along D E c (Within D E c L EL most (length first.actors)) L EL (within_kept D E c L EL most (length first.actors)) any first reached first_along reach in
       let is : slice_index reached.words 6 ≡ A.words.failed = ap (λ (ws : List ℕ). slice_index ws 6) A.flat_is in
       let F : Failing D E c L EL (length first.actors) reached = record {
-        along = record { words = A.words; log_ghost = A.log_ghost; page_ghost = A.page_ghost; flat_is = A.flat_is; both = A.both; holds = tt };
+        along = record { words = A.words; log_ghost = A.log_ghost; page_ghost = A.page_ghost; layout_is = A.layout_is; flat_is = A.flat_is; both = A.both; holds = tt };
         failed = omega arith;
         seats = A.holds.1;
       } in

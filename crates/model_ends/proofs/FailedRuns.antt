@@ -22,7 +22,7 @@ use Rattle.model_pagecore.specs.DataLaws.{DataLaws}
 use Rattle.model_running.proofs.FailedStays.{turn_keeps_failed}
 use Rattle.model_running.specs.RunningStore.{IsRunning}
 use Rattle.model_running.specs.PlainStore.{plain_store}
-use Rattle.model_running.specs.Schedule.{HaveEnded, IsSpent, seat_of_turn, TakesTurns}
+use Rattle.model_running.specs.Schedule.{HaveEnded, seat_of_turn, TakesTurns}
 use Rattle.model_script.specs.{draw}
 use Rattle.model_ends.proofs.Along.{actors_then, Along, both_filled, EachTurnKeeps, lists_then, turn_along, words_then}
 use Rattle.model_ends.proofs.FailedTurns.{filled_left, Moves, total, turn_no_more, user_moves}
@@ -87,7 +87,7 @@ module _ (D : LogSide) (E : DataSide) (c : Setup) (L : LogLaws D) (EL : DataLaws
     there = set_at old.actors seat t.who who t.who_is
 
     running : IsRunning D E c old
-    running = record { shared = S.words; log_ghost = S.log_ghost; page_ghost = S.page_ghost; flat_is = S.flat_is; both = S.both }
+    running = record { shared = S.words; log_ghost = S.log_ghost; page_ghost = S.page_ghost; layout_is = S.layout_is; flat_is = S.flat_is; both = S.both }
 
     pub still_failed : 0 < after.failed
     still_failed =

@@ -19,7 +19,7 @@ use Rattle.model_pagecore.specs.Latches.{UserHasLatch}
 use Rattle.model_pagecore.specs.PageHalf.{UserPagesAt}
 use Rattle.model_running.specs.RunningStore.{BothHalves}
 use Rattle.model_base.specs.declared.limits.TheConstants.{LSN_LIMIT, MIN_LOG_BLOCKS}
-use Rattle.model_core.specs.{Core, flat, lsn}
+use Rattle.model_core.specs.{Core, flat, layout_of, lsn}
 use Rattle.model_logcore.specs.{sum_over_actors}
 use Rattle.model_logcore.specs.LogHalf.{left_to_reserve}
 use Rattle.model_logcore.specs.LogLaws.{LogLaws}
@@ -112,10 +112,10 @@ module _ (D : LogSide) (E : DataSide) (c : Setup) (m : SharedWords) (g : LogGhos
       by again (actor.Reader v) there_is has = absurd has
 
 -- in each state that any turns reach from the start of a run whose lines name their pages in ascending order
-module _ (D : LogSide) (E : DataSide) (c : Setup) (L : LogLaws D) (EL : DataLaws E) (words : SharedWords) (seat_of : ℕ → ℕ) (writer : ℕ) (first : Core D E) (S : StartStore D E c words first.log_part first.data_part seat_of writer first.actors) (flat_is : first.words ≡ flat words) (lists : ◌≡◌ {A = ℕ → List Listed} first.lists (λ _. []))
+module _ (D : LogSide) (E : DataSide) (c : Setup) (L : LogLaws D) (EL : DataLaws E) (words : SharedWords) (seat_of : ℕ → ℕ) (writer : ℕ) (first : Core D E) (S : StartStore D E c words first.log_part first.data_part seat_of writer first.actors) (layout_is : first.layout ≡ layout_of c) (flat_is : first.words ≡ flat words) (lists : ◌≡◌ {A = ℕ → List Listed} first.lists (λ _. []))
     (short : lsn (c.base + sum_over_actors left_to_reserve first.actors) < LSN_LIMIT) (few : sum_over_actors is_user first.actors ≤ 16) (long : MIN_LOG_BLOCKS ≤ c.blocks) (ascend : (user : ℕ) → Ascend (c.script user)) where
   pub latches_end_in_run : (k : ℕ) (s : Core D E) (r : CanReach D E k first s) (seat : ℕ) (u : UserState) → get_elem? s.actors seat ≡ some (actor.User u) → u.step ≡ user_step.TakeLatch
-      → WaitsForNone (reached D E c L EL words seat_of writer first S flat_is lists short few long ascend k s r).words s.actors
+      → WaitsForNone (reached D E c L EL words seat_of writer first S layout_is flat_is lists short few long ascend k s r).words s.actors
   latches_end_in_run k s r seat u at waits =
-      let A = reached D E c L EL words seat_of writer first S flat_is lists short few long ascend k s r in
+      let A = reached D E c L EL words seat_of writer first S layout_is flat_is lists short few long ascend k s r in
       latches_end D E c A.words A.log_ghost A.page_ghost s.lists s.log_part s.data_part s.actors A.both A.holds.ascend c.pages seat u at waits (omega arith)

@@ -81,7 +81,7 @@ module _ (D : LogSide) (E : DataSide) (L : LogLaws D) (EL : DataLaws E) (c : Set
   reached_first : Reached D E c L EL S.log_only (last_lsn c first.actors) S.room (length first.actors) (sum_over_actors steps_of first.actors) first
   reached_first = record {
     words = S.words;
-    state = record { log_ghost = start D c S.words first.log_part S.seat_of S.writer S.store.words S.store.log_part; page_ghost = start_pages c; flat_is = S.flat_is; both = both_starts; further = further_starts };
+    state = record { log_ghost = start D c S.words first.log_part S.seat_of S.writer S.store.words S.store.log_part; page_ghost = start_pages c; layout_is = S.layout_is; flat_is = S.flat_is; both = both_starts; further = further_starts };
     last_is = refl;
     seats = refl;
     steps_are = refl;

@@ -1,7 +1,7 @@
 -- A running store with the log alone, over its words by name; and what a turn leaves of it.
 use Rattle.std.proofs.Common.{List, ap, arith, cond, eqb, refl, set, subst, sym, true, ℕ, ◌%◌, ◌+◌, ◌<◌, ◌∙◌, ◌≡◌}
 use Rattle.std.specs.Prelude.{slice_index}
-use Rattle.model_core.specs.{Actor, answer_of, appended, Core, DataServed, filled, Filling, flat, lent, list_word, Listed, lists_left, LogServed, next, shared_answer, shared_left, SharedWords, took, without, words_left}
+use Rattle.model_core.specs.{Actor, answer_of, appended, Core, DataServed, filled, Filling, flat, layout_of, lent, list_word, Listed, lists_left, LogServed, next, shared_answer, shared_left, SharedWords, took, without, words_left}
 use Rattle.model_core.specs.DataSide.{DataSide}
 use Rattle.model_core.specs.LogSide.{LogSide}
 use Rattle.model_core.specs.Setup.{Setup}
@@ -23,6 +23,7 @@ use Rattle.model_ends.proofs.Further.{Further, Told}
 use Rattle.model_ends.proofs.FurtherKeeps.{further_kept}
 use Rattle.model_core.specs.Actors as actor
 use Rattle.model_core.specs.declared.ops.Op.TheVariants as op
+use Rattle.model_core.specs.declared.words.Layout.{Layout}
 use Rattle.model_core.specs.declared.words.Word.TheVariants as word
 
 -- the flush lists after an Op depend on the turn words of the lists alone
@@ -55,12 +56,13 @@ module _ (D : LogSide) (E : DataSide) (c : Setup) where
   pub record State (m : SharedWords) (s : Core D E) : Type 0 where
     pub log_ghost : LogGhost
     pub page_ghost : PageGhost
+    pub layout_is : s.layout ≡ layout_of c
     pub flat_is : s.words ≡ flat m
     pub both : BothHalves D E c m log_ghost page_ghost s.lists s.log_part s.data_part s.actors
     pub further : Further D c m s.log_part s.actors
 
   running : (m : SharedWords) (s : Core D E) → State m s → IsRunning D E c s
-  running m s S = record { shared = m; log_ghost = S.log_ghost; page_ghost = S.page_ghost; flat_is = S.flat_is; both = S.both }
+  running m s S = record { shared = m; log_ghost = S.log_ghost; page_ghost = S.page_ghost; layout_is = S.layout_is; flat_is = S.flat_is; both = S.both }
 
   module _ (L : LogLaws D) (EL : DataLaws E) (alone : c.log_only ≡ true) (m : SharedWords) (old new : Core D E) (seat : ℕ) (answer : Answer) (step : Step) (S : State m old) (t : Turn D E old seat answer step new) where
     abbrev told : Told c m.failed t.who
@@ -82,7 +84,9 @@ module _ (D : LogSide) (E : DataSide) (c : Setup) where
     said_is : ◌≡◌ {A = Answer} said answer
     said_is =
         let w = next_words D E c m S.log_ghost S.page_ghost old.lists old.log_part old.data_part old.actors seat S.both t.who t.who_is in
-        sym (ap (λ (z : List ℕ). answer_of old.lists (D.failed old.log_part) t.code (D.stable new.log_part) z (next t.who)) S.flat_is ∙ flat_answer c.pages m S.both.logged.sized old.lists (D.failed old.log_part) t.code (D.stable new.log_part) (next t.who) w) ∙ sym t.answered
+        sym (ap (λ (z : List ℕ). answer_of old.layout old.lists (D.failed old.log_part) t.code (D.stable new.log_part) z (next t.who)) S.flat_is
+        ∙ ap (λ (l : Layout). answer_of l old.lists (D.failed old.log_part) t.code (D.stable new.log_part) (flat m) (next t.who)) S.layout_is
+        ∙ flat_answer (layout_of c) m S.both.logged.sized old.lists (D.failed old.log_part) t.code (D.stable new.log_part) (next t.who) w) ∙ sym t.answered
 
     pub actors_then : ◌≡◌ {A = List Actor} (set old.actors seat (took t.who said)) new.actors
     actors_then = ap (λ (x : Answer). set old.actors seat (took t.who x)) said_is ∙ ap (λ (x : Actor). set old.actors seat (took x answer)) (sym (filled_same c m.failed t.who t.filling told)) ∙ sym t.actors
@@ -90,11 +94,12 @@ module _ (D : LogSide) (E : DataSide) (c : Setup) where
     words_then : new.words ≡ flat after
     words_then =
         let w = next_words D E c m S.log_ghost S.page_ghost old.lists old.log_part old.data_part old.actors seat S.both t.who t.who_is in
-        t.words ∙ ap (λ (z : List ℕ). words_left z (next t.who)) S.flat_is ∙ flat_left c.pages m S.both.logged.sized (next t.who) w
+        t.words ∙ ap (λ (z : List ℕ). words_left old.layout z (next t.who)) S.flat_is
+        ∙ ap (λ (l : Layout). words_left l (flat m) (next t.who)) S.layout_is ∙ flat_left (layout_of c) m S.both.logged.sized (next t.who) w
 
     lists_then : ◌≡◌ {A = ℕ → List Listed} (lists_left old.lists (λ i. slice_index m.lists i) (next t.who)) new.lists
     lists_then = lists_same old.lists (λ i. slice_index m.lists i) (list_word old.words)
-        (λ i l. sym (ap (λ (ws : List ℕ). slice_index ws (8 + i)) S.flat_is ∙ flat_read c.pages m S.both.logged.sized (word.List i) l)) (next t.who) ∙ sym t.lists
+        (λ i l. sym (ap (λ (ws : List ℕ). slice_index ws (8 + i)) S.flat_is ∙ flat_read (layout_of c) m S.both.logged.sized (word.List i) l)) (next t.who) ∙ sym t.lists
 
     pub never_back : 0 < m.failed → 0 < after.failed
     never_back failed =
@@ -109,6 +114,7 @@ module _ (D : LogSide) (E : DataSide) (c : Setup) where
         record {
           log_ghost = r.log_ghost;
           page_ghost = r.page_ghost;
+          layout_is = t.layout ∙ S.layout_is;
           flat_is = words_then;
           both = subst (λ (rs : List Actor). BothHalves D E c after r.log_ghost r.page_ghost new.lists new.log_part new.data_part rs) actors_then
               (subst (λ (ls : ℕ → List Listed). BothHalves D E c after r.log_ghost r.page_ghost ls new.log_part new.data_part (set old.actors seat (took t.who said))) lists_then r.both);

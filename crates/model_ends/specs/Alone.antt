@@ -3,7 +3,7 @@ use Rattle.std.specs.Prelude.{List, [], false, suc, true, zero, ℕ, ◌+◌, �
 use lib.ListN.{get_elem?}
 use mathlib.Core.Option.{some}
 use Rattle.model_base.specs.declared.limits.TheConstants.{BLOCK_SIZE, LSN_LIMIT}
-use Rattle.model_core.specs.{Actor, Core, flat, FlusherState, Listed, SharedWords, WriterState}
+use Rattle.model_core.specs.{Actor, Core, flat, FlusherState, layout_of, Listed, SharedWords, WriterState}
 use Rattle.model_core.specs.DataSide.{DataSide}
 use Rattle.model_core.specs.LogSide.{LogSide}
 use Rattle.model_core.specs.Setup.{Setup}
@@ -33,6 +33,7 @@ pub record AreLogActors (actors : List Actor) : Type 0 where
 pub record StartsAlone (D : LogSide) (E : DataSide) (c : Setup) (first : Core D E) : Type 0 where
   pub log_only : c.log_only ≡ true
   pub words : SharedWords
+  pub layout_is : first.layout ≡ layout_of c
   pub flat_is : first.words ≡ flat words
   pub seat_of : ℕ → ℕ
   pub writer : ℕ

@@ -2,7 +2,7 @@
 use Rattle.std.proofs.Common.{Bool, List, ap, arith, cond, eqb, false, refl, set, sym, true, ℕ, ◌<◌, ◌∙◌, ◌≡◌, ◌≢◌, ◌≤◌}
 use Rattle.std.proofs.lemmas.Bool.{eqb-false}
 use lib.ListN.{get_elem?}
-use Rattle.model_core.specs.{Actor, Entry, flusher_holds, flusher_took, FlusherState, holds, IsSized, SharedWords}
+use Rattle.model_core.specs.{Actor, Entry, flusher_holds, flusher_took, FlusherState, holds, IsSized, layout_of, SharedWords}
 use Rattle.model_core.specs.LogSide.{LogSide}
 use Rattle.model_core.specs.Setup.{Setup}
 use Rattle.model_logcore.proofs.DeviceSteps.{stays}
@@ -29,7 +29,7 @@ module _ (D : LogSide) (L : LogLaws D) (c : Setup) (m : SharedWords) (g : LogGho
       by false free = same free
 
   -- the flusher moves, and holds what it held
-  fsteps : (m' : SharedWords) (g' : LogGhost) (q : D.Part) (point : D.ckpt q ≡ D.ckpt p) (w : FlusherState) → IsSized c.pages m' → LogFacts D c m' g' q → FlusherFits D c m' g' q seat w → Later D c m g m' g' seat → Still D c m m' g g' p q → m'.ckpt ≡ m.ckpt → m'.device ≡ m.device → g'.holder ≡ g.holder → g'.log ≡ g.log → m'.sn ≡ m.sn
+  fsteps : (m' : SharedWords) (g' : LogGhost) (q : D.Part) (point : D.ckpt q ≡ D.ckpt p) (w : FlusherState) → IsSized (layout_of c) m' → LogFacts D c m' g' q → FlusherFits D c m' g' q seat w → Later D c m g m' g' seat → Still D c m m' g g' p q → m'.ckpt ≡ m.ckpt → m'.device ≡ m.device → g'.holder ≡ g.holder → g'.log ≡ g.log → m'.sn ≡ m.sn
       → flusher_holds w.step ≡ flusher_holds f.step → (flusher_holds f.step ≡ false → ◌≡◌ {A = D.Part} q p) → Kept D c m' g' q (set actors seat (actor.Flusher w))
   fsteps m' g' q point w sized global fit later still ckpt device holder log sn keep same = moved_on D c m m' g g' p q actors seat (actor.Flusher f) (actor.Flusher w) before at sized global fit
       (λ j a n e. others_flusher D c m m' g g' p q seat hers.alone before.global later still (record { ckpt_word = ckpt; failed = later.failed; ckpt = point }) j a n (others_by q same j a n e) (before.each j a e))

@@ -14,7 +14,7 @@ use Rattle.model_log.specs.declared.layout.TheConstants.{BLOCK_DATA}
 use Rattle.model_core.proofs.Lists.{at_set, set_at, set_else}
 use Rattle.model_core.proofs.Groups.{tiles_at}
 use Rattle.model_core.proofs.Lsns.{floor_grows, lsn_below}
-use Rattle.model_core.specs.{Actor, Advance, byte_at, ChecksWithoutTail, checkpointer_holds, CheckpointerState, CleanerState, end_of, entries, Entry, first_of, flusher_holds, FlusherState, group_bytes, HasHolder, holds, IsSized, left_in_word, LoadedMarks, lsn, read_place, SharedWords, sum_of, Tiles, UserState, word_end, writer_holds, WriterState}
+use Rattle.model_core.specs.{Actor, Advance, byte_at, ChecksWithoutTail, checkpointer_holds, CheckpointerState, CleanerState, end_of, entries, Entry, first_of, flusher_holds, FlusherState, group_bytes, HasHolder, holds, IsSized, layout_of, left_in_word, LoadedMarks, lsn, read_place, SharedWords, sum_of, Tiles, UserState, word_end, writer_holds, WriterState}
 use Rattle.model_core.specs.LogSide.{LogSide}
 use Rattle.model_core.specs.Setup.{Setup}
 use Rattle.model_core.specs.declared.steps.AdvanceStep.{AdvanceStep}
@@ -78,7 +78,7 @@ module _ (D : LogSide) (c : Setup) where
 
   -- the actor at one seat moves
   pub moved : (m m' : SharedWords) (g g' : LogGhost) (p p' : D.Part) (actors : List Actor) (seat : ℕ) (b : Actor) → LogHalf D c m g p actors
-      → IsSized c.pages m' → LogFacts D c m' g' p' → LogFits D c m' g' p' seat b
+      → IsSized (layout_of c) m' → LogFacts D c m' g' p' → LogFits D c m' g' p' seat b
       → ((j : ℕ) (a : Actor) → j ≢ seat → get_elem? actors j ≡ some a → LogFits D c m' g' p' j a)
       → (holds b ≡ true → (m'.device ≡ 1) × (seat ≡ g'.holder))
       → ((j : ℕ) (a : Actor) → j ≢ seat → get_elem? actors j ≡ some a → holds a ≡ true → (m'.device ≡ 1) × (j ≡ g'.holder))
@@ -100,7 +100,7 @@ module _ (D : LogSide) (c : Setup) where
 
   -- the same where it holds what it held, and its groups stay
   pub moved_on : (m m' : SharedWords) (g g' : LogGhost) (p p' : D.Part) (actors : List Actor) (seat : ℕ) (a b : Actor) → LogHalf D c m g p actors → get_elem? actors seat ≡ some a
-      → IsSized c.pages m' → LogFacts D c m' g' p' → LogFits D c m' g' p' seat b
+      → IsSized (layout_of c) m' → LogFacts D c m' g' p' → LogFits D c m' g' p' seat b
       → ((j : ℕ) (x : Actor) → j ≢ seat → get_elem? actors j ≡ some x → LogFits D c m' g' p' j x)
       → m'.device ≡ m.device → g'.holder ≡ g.holder → g'.log ≡ g.log → m'.sn ≡ m.sn
       → holds b ≡ holds a → ◌≡◌ {A = List Entry} (entries b) (entries a) → left_to_reserve b ≤ left_to_reserve a

@@ -2,7 +2,7 @@
 use Rattle.std.proofs.Common.{Bool, List, ap, arith, cond, eqb, false, refl, set, sym, true, ℕ, ⊎_elim, ◌<◌, ◌∙◌, ◌≡◌, ◌≤◌, ◌⊎◌}
 use Rattle.std.proofs.lemmas.Bool.{eqb-false}
 use lib.ListN.{get_elem?}
-use Rattle.model_core.specs.{Actor, checkpointer_holds, checkpointer_took, CheckpointerState, entries, Entry, holds, IsSized, PageWords, SharedWords}
+use Rattle.model_core.specs.{Actor, checkpointer_holds, checkpointer_took, CheckpointerState, entries, Entry, holds, IsSized, layout_of, PageWords, SharedWords}
 use Rattle.model_core.specs.LogSide.{LogSide}
 use Rattle.model_core.specs.Setup.{Setup}
 use Rattle.model_logcore.proofs.Frame.{unchanged, Kept, others_later, others_pointer, moved_on}
@@ -18,7 +18,7 @@ use Rattle.model_core.specs.Actors as actor
 
 module _ (D : LogSide) (c : Setup) (m : SharedWords) (g : LogGhost) (p : D.Part) (actors : List Actor) (seat : ℕ) (a : Actor) (before : LogHalf D c m g p actors) (at : get_elem? actors seat ≡ maybe.some a) where
   -- words that the log half doesn't read change, FAILED to a code, or CKPT up to the newest checkpoint
-  pub page_aside : (lists clinks : List ℕ) (page_words : List PageWords) (ctail : ℕ) (cheld : Bool) (ckpt failed : ℕ) (b : Actor) → IsSized c.pages (record m { lists = lists; clinks = clinks; page_words = page_words; ctail = ctail; cheld = cheld; ckpt = ckpt; failed = failed })
+  pub page_aside : (lists clinks : List ℕ) (page_words : List PageWords) (ctail : ℕ) (cheld : Bool) (ckpt failed : ℕ) (b : Actor) → IsSized (layout_of c) (record m { lists = lists; clinks = clinks; page_words = page_words; ctail = ctail; cheld = cheld; ckpt = ckpt; failed = failed })
       → m.ckpt ≤ ckpt → ckpt ≤ D.ckpt p → (0 < m.failed → 0 < failed) → (ckpt ≡ m.ckpt) ⊎ (seat ≡ c.checkpointer)
       → LogFits D c (record m { lists = lists; clinks = clinks; page_words = page_words; ctail = ctail; cheld = cheld; ckpt = ckpt; failed = failed }) g p seat b → holds b ≡ holds a → ◌≡◌ {A = List Entry} (entries b) (entries a) → left_to_reserve b ≤ left_to_reserve a
       → Kept D c (record m { lists = lists; clinks = clinks; page_words = page_words; ctail = ctail; cheld = cheld; ckpt = ckpt; failed = failed }) g p (set actors seat b)

@@ -7,7 +7,7 @@ use Rattle.model_core.proofs.Lists.{at_set, set_again}
 use Rattle.model_core.proofs.TailHolders.{holder_stays}
 use Rattle.model_core.proofs.TailsFree.{took_free}
 unfoldable use Rattle.model_core.specs.{lanes}
-use Rattle.model_core.specs.{Actor, Advance, Batch, Blocks, checked, ChecksWithoutTail, checkpointer_holds, checkpointer_op, checkpointer_took, CheckpointerState, cleaner_op, cleaner_took, CleanerState, closer_op, closer_took, CloserState, Entry, first_of_batch, floor, flusher_holds, flusher_op, flusher_took, FlusherState, heard, is_held, IsSized, lent, Listed, log_left, LogServed, lowered, next, next_in_round, Nothing, old_of, oldest_end, own_took, page_loaded, current_page, page_words_at, PageWords, phase_log, shared_answer, shared_left, SharedWords, tail_of, tail_word, took, user_op, user_took, UserState, with_page_words, writer_holds, writer_op, writer_took, WriterState}
+use Rattle.model_core.specs.{Actor, Advance, Batch, Blocks, checked, ChecksWithoutTail, checkpointer_holds, checkpointer_op, checkpointer_took, CheckpointerState, cleaner_op, cleaner_took, CleanerState, closer_op, closer_took, CloserState, Entry, first_of_batch, floor, flusher_holds, flusher_op, flusher_took, FlusherState, heard, is_held, IsSized, layout_of, lent, Listed, log_left, LogServed, lowered, next, next_in_round, Nothing, old_of, oldest_end, own_took, page_loaded, current_page, page_words_at, PageWords, phase_log, shared_answer, shared_left, SharedWords, tail_of, tail_word, took, user_op, user_took, UserState, with_page_words, writer_holds, writer_op, writer_took, WriterState}
 use Rattle.model_core.specs.LogSide.{LogSide}
 use Rattle.model_core.specs.Setup.{Setup}
 use Rattle.model_core.specs.declared.ops.Answer.{Answer}
@@ -212,11 +212,11 @@ module _ (D : LogSide) (L : LogLaws D) (c : Setup) (m : SharedWords) (g : LogGho
     closer_fits : t.step ≡ closer_step.Failed → 0 < m.failed
     closer_fits = before.each seat (actor.Closer t) at
 
-    closer_keeps : (clinks : List ℕ) (ctail : ℕ) (cheld : Bool) (x : CloserState) → IsSized c.pages (record m { clinks = clinks; ctail = ctail; cheld = cheld }) → (x.step ≡ closer_step.Failed → 0 < m.failed) → ◌≡◌ {A = D.Part} q p
+    closer_keeps : (clinks : List ℕ) (ctail : ℕ) (cheld : Bool) (x : CloserState) → IsSized (layout_of c) (record m { clinks = clinks; ctail = ctail; cheld = cheld }) → (x.step ≡ closer_step.Failed → 0 < m.failed) → ◌≡◌ {A = D.Part} q p
         → (h : LogGhost) × Kept D c (record m { clinks = clinks; ctail = ctail; cheld = cheld }) h q (set actors seat (actor.Closer x)) × (◌≡◌ {A = List Entry} (h.log) g.log)
     closer_keeps clinks ctail cheld x sized f v = same _ _ v (g, page_aside D c m g p actors seat (actor.Closer t) before at m.lists clinks m.page_words ctail cheld m.ckpt m.failed (actor.Closer x) sized (omega arith) before.global.part.ckpt_part (λ z. z) (inl refl) f refl refl (omega arith), refl)
 
-    advances : (clinks : List ℕ) (ctail : ℕ) (cheld : Bool) (advance : Advance) (checks : Bool) (x : AdvanceStep) → IsSized c.pages (record m { clinks = clinks; ctail = ctail; cheld = cheld }) → ◌≡◌ {A = D.Part} q p
+    advances : (clinks : List ℕ) (ctail : ℕ) (cheld : Bool) (advance : Advance) (checks : Bool) (x : AdvanceStep) → IsSized (layout_of c) (record m { clinks = clinks; ctail = ctail; cheld = cheld }) → ◌≡◌ {A = D.Part} q p
         → (h : LogGhost) × Kept D c (record m { clinks = clinks; ctail = ctail; cheld = cheld }) h q (set actors seat (actor.Closer (record t { advance = advance; checks = checks; step = closer_step.Advance x }))) × (◌≡◌ {A = List Entry} (h.log) g.log)
     advances clinks ctail cheld advance checks x sized v = closer_keeps clinks ctail cheld (record t { advance = advance; checks = checks; step = closer_step.Advance x }) sized (λ z. absurd (cc)) v
 
@@ -244,7 +244,7 @@ module _ (D : LogSide) (L : LogLaws D) (c : Setup) (m : SharedWords) (g : LogGho
     told_fits : CleanerTold D c m g p x
     told_fits = before.each seat (actor.Cleaner x) at
 
-    cleaner_keeps : (lists : List ℕ) (page_words : List PageWords) (failed : ℕ) (y : CleanerState) → IsSized c.pages (record m { lists = lists; page_words = page_words; failed = failed }) → (0 < m.failed → 0 < failed) → (y.step ≡ cleaner_step.Failed → 0 < failed) → (y.step ≡ cleaner_step.StoreFailed → 0 < y.code) → ◌≡◌ {A = D.Part} q p
+    cleaner_keeps : (lists : List ℕ) (page_words : List PageWords) (failed : ℕ) (y : CleanerState) → IsSized (layout_of c) (record m { lists = lists; page_words = page_words; failed = failed }) → (0 < m.failed → 0 < failed) → (y.step ≡ cleaner_step.Failed → 0 < failed) → (y.step ≡ cleaner_step.StoreFailed → 0 < y.code) → ◌≡◌ {A = D.Part} q p
         → (h : LogGhost) × Kept D c (record m { lists = lists; page_words = page_words; failed = failed }) h q (set actors seat (actor.Cleaner y)) × (◌≡◌ {A = List Entry} (h.log) g.log)
     cleaner_keeps lists page_words failed y sized up a b v = same _ _ v (g, page_aside D c m g p actors seat (actor.Cleaner x) before at lists m.clinks page_words m.ctail m.cheld m.ckpt failed (actor.Cleaner y) sized (omega arith) before.global.part.ckpt_part up (inl refl) (a, b) refl refl (omega arith), refl)
 
@@ -259,7 +259,7 @@ module _ (D : LogSide) (L : LogLaws D) (c : Setup) (m : SharedWords) (g : LogGho
 
     -- it goes on: neither dead nor failing
     next_in_round_on : (y : CleanerState) → ((next_in_round y).step ≡ cleaner_step.Failed → ⊥) × ((next_in_round y).step ≡ cleaner_step.StoreFailed → ⊥)
-    next_in_round_on y = by (cond (eqb y.left 1) true (eqb (length y.batch) 8)) (eqb (length y.batch) 0)
+    next_in_round_on y = by (cond (eqb y.left 1) true (eqb (length y.batch) y.slots)) (eqb (length y.batch) 0)
       where
         by : (b d : Bool) → ((cond b (cond d (record y { page = cond (eqb (y.page + 1) y.pages) 0 (y.page + 1); left = y.left - 1; kept = []; checks = true; step = cleaner_step.LoadFlushed }) (record y { page = cond (eqb (y.page + 1) y.pages) 0 (y.page + 1); left = y.left - 1; kept = []; step = cleaner_step.WriteBatch }))
             (record y { page = cond (eqb (y.page + 1) y.pages) 0 (y.page + 1); left = y.left - 1; kept = []; step = cleaner_step.LoadOldest })).step ≡ cleaner_step.Failed → ⊥) × ((cond b (cond d (record y { page = cond (eqb (y.page + 1) y.pages) 0 (y.page + 1); left = y.left - 1; kept = []; checks = true; step = cleaner_step.LoadFlushed }) (record y { page = cond (eqb (y.page + 1) y.pages) 0 (y.page + 1); left = y.left - 1; kept = []; step = cleaner_step.WriteBatch }))
@@ -326,7 +326,7 @@ module _ (D : LogSide) (L : LogLaws D) (c : Setup) (m : SharedWords) (g : LogGho
     abbrev CheckpointerDone : SharedWords → CheckpointerState → Type 0
     CheckpointerDone m' y = (h : LogGhost) × Kept D c m' h q (set actors seat (actor.Checkpointer y)) × (◌≡◌ {A = List Entry} (h.log) g.log)
 
-    checkpointer_keeps : (lists : List ℕ) (ckpt failed : ℕ) (y : CheckpointerState) → IsSized c.pages (record m { lists = lists; ckpt = ckpt; failed = failed }) → m.ckpt ≤ ckpt → ckpt ≤ D.ckpt p → (0 < m.failed → 0 < failed) → CheckpointerFits D c (record m { lists = lists; ckpt = ckpt; failed = failed }) g p seat y → checkpointer_holds y.step ≡ checkpointer_holds t.step → ◌≡◌ {A = D.Part} q p
+    checkpointer_keeps : (lists : List ℕ) (ckpt failed : ℕ) (y : CheckpointerState) → IsSized (layout_of c) (record m { lists = lists; ckpt = ckpt; failed = failed }) → m.ckpt ≤ ckpt → ckpt ≤ D.ckpt p → (0 < m.failed → 0 < failed) → CheckpointerFits D c (record m { lists = lists; ckpt = ckpt; failed = failed }) g p seat y → checkpointer_holds y.step ≡ checkpointer_holds t.step → ◌≡◌ {A = D.Part} q p
         → CheckpointerDone (record m { lists = lists; ckpt = ckpt; failed = failed }) y
     checkpointer_keeps lists ckpt failed y sized a b up f keep v = same _ _ v (g, page_aside D c m g p actors seat (actor.Checkpointer t) before at lists m.clinks m.page_words m.ctail m.cheld ckpt failed (actor.Checkpointer y) sized a b up (inr its.alone) f keep refl (omega arith), refl)
 

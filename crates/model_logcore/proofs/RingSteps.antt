@@ -10,7 +10,7 @@ use Rattle.model_core.proofs.Groups.{changed, changed_else, changed_here, entry_
 use Rattle.model_core.proofs.Lanes.{add_else, add_here, add_wide, cell_word, left_fits, next_are, next_few, next_lanes, next_long, next_some, next_within, same_word, word_grows, word_up}
 use Rattle.model_core.proofs.Lsns.{block_below, block_window, floor_grows, lsn_block, lsn_le, lsn_less, lsn_offset, lsn_wide, ring_same}
 unfoldable use Rattle.model_core.specs.{lane, packed}
-use Rattle.model_core.specs.{Actor, Advance, byte_at, byte_in, cell_of, copy_place, end_of, entries, Entry, entry, first_of, floor, group_bytes, group_end, IsSized, lane_of, line, LoadedMarks, lsn, next_bytes, next_count, SharedWords, user_took, UserState}
+use Rattle.model_core.specs.{Actor, Advance, byte_at, byte_in, cell_of, copy_place, end_of, entries, Entry, entry, first_of, floor, group_bytes, group_end, IsSized, layout_of, lane_of, line, LoadedMarks, lsn, next_bytes, next_count, SharedWords, user_took, UserState}
 use Rattle.model_core.specs.LogSide.{LogSide}
 use Rattle.model_core.specs.Setup.{Setup}
 use Rattle.model_core.specs.declared.steps.UserStep.{UserStep}
@@ -77,7 +77,7 @@ module _ (D : LogSide) (c : Setup) (m : SharedWords) (g : LogGhost) (p : D.Part)
   }
 
   -- the user moves, and words other than SN and DEVICE, or places of its own, change
-  pub steps : (m' : SharedWords) (g' : LogGhost) (w : UserState) → IsSized c.pages m' → LogFacts D c m' g' p → UserFits D c m' g' p seat w → Later D c m g m' g' seat → Still D c m m' g g' p p
+  pub steps : (m' : SharedWords) (g' : LogGhost) (w : UserState) → IsSized (layout_of c) m' → LogFacts D c m' g' p → UserFits D c m' g' p seat w → Later D c m g m' g' seat → Still D c m m' g g' p p
       → m'.flushed ≡ m.flushed → m'.ckpt ≡ m.ckpt → m'.device ≡ m.device → g'.holder ≡ g.holder → g'.log ≡ g.log → m'.sn ≡ m.sn
       → ◌≡◌ {A = List Entry} (entries (actor.User w)) (entries (actor.User u)) → left_to_reserve (actor.User w) ≤ left_to_reserve (actor.User u)
       → Kept D c m' g' p (set actors seat (actor.User w))

@@ -2,10 +2,10 @@
 use Rattle.std.proofs.Common.{Bool, List, ap, arith, false, get_or-set_other, get_or-set_same, length, length-set, refl, set, subst, sym, true, ℕ, ◌*◌, ◌+◌, ◌<◌, ◌∙◌, ◌≡◌, ◌≤◌, ◌≢◌}
 use Rattle.std.specs.Prelude.{slice_set, slice_index}
 use native.Mathlib.Decide.{ℕ_discrete}
-use Rattle.model_core.specs.{Advance, blank_words, IsBound, IsSized, lsn, page_words_at, PageWords, SharedWords, with_page_words, writer_holds, WriterState}
+use Rattle.model_core.specs.{Advance, blank_words, frame_words, IsBound, IsSized, lsn, page_words_at, PageWords, SharedWords, with_page_words, writer_holds, WriterState}
 use Rattle.model_core.specs.LogSide.{LogSide}
 use Rattle.model_core.specs.Setup.{Setup}
-use Rattle.model_core.specs.declared.limits.TheConstants.{FRAME_WORDS}
+use Rattle.model_core.specs.declared.words.Layout.{Layout}
 use Rattle.model_log.specs.declared.layout.TheConstants.{BLOCK_DATA}
 use Rattle.model_core.specs.declared.steps.WriterStep.{WriterStep}
 use Rattle.model_logcore.proofs.Frame.{Later, Still, StillHeld}
@@ -20,36 +20,36 @@ pub stored_else : (l : List ℕ) (i v j : ℕ) → j ≢ i → slice_index (slic
 stored_else l i v j n = rw get_or-set_other refl
 
 -- numbers change, and lists to lists as long as before
-pub sized_same : {pages : ℕ} {m : SharedWords} {sn write wtail flushed ckpt ctail failed device : ℕ} {wheld cheld : Bool} {lists wlinks clinks cells firsts places : List ℕ}
-    → length lists ≡ length m.lists → length wlinks ≡ length m.wlinks → length clinks ≡ length m.clinks → length cells ≡ length m.cells → length firsts ≡ length m.firsts → length places ≡ length m.places → IsSized pages m
-    → IsSized pages (record { sn = sn; write = write; wtail = wtail; wheld = wheld; flushed = flushed; ckpt = ckpt; ctail = ctail; cheld = cheld; failed = failed; device = device; lists = lists; wlinks = wlinks; clinks = clinks; cells = cells; firsts = firsts; places = places; page_words = m.page_words })
+pub sized_same : {layout : Layout} {m : SharedWords} {sn write wtail flushed ckpt ctail failed device : ℕ} {wheld cheld : Bool} {lists wlinks clinks cells firsts places : List ℕ}
+    → length lists ≡ length m.lists → length wlinks ≡ length m.wlinks → length clinks ≡ length m.clinks → length cells ≡ length m.cells → length firsts ≡ length m.firsts → length places ≡ length m.places → IsSized layout m
+    → IsSized layout (record { sn = sn; write = write; wtail = wtail; wheld = wheld; flushed = flushed; ckpt = ckpt; ctail = ctail; cheld = cheld; failed = failed; device = device; lists = lists; wlinks = wlinks; clinks = clinks; cells = cells; firsts = firsts; places = places; page_words = m.page_words })
 sized_same a b d e f h z = record { lists = a ∙ z.lists; wlinks = b ∙ z.wlinks; clinks = d ∙ z.clinks; cells = e ∙ z.cells; firsts = f ∙ z.firsts; places = h ∙ z.places; page_words = z.page_words; frames = z.frames }
 
-pub numbers_sized : {pages : ℕ} {m : SharedWords} {sn write wtail flushed ckpt ctail failed device : ℕ} {wheld cheld : Bool} → IsSized pages m
-    → IsSized pages (record m { sn = sn; write = write; wtail = wtail; wheld = wheld; flushed = flushed; ckpt = ckpt; ctail = ctail; cheld = cheld; failed = failed; device = device })
+pub numbers_sized : {layout : Layout} {m : SharedWords} {sn write wtail flushed ckpt ctail failed device : ℕ} {wheld cheld : Bool} → IsSized layout m
+    → IsSized layout (record m { sn = sn; write = write; wtail = wtail; wheld = wheld; flushed = flushed; ckpt = ckpt; ctail = ctail; cheld = cheld; failed = failed; device = device })
 numbers_sized z = sized_same refl refl refl refl refl refl z
 
-pub lists_sized : {pages : ℕ} {m : SharedWords} (i x : ℕ) → IsSized pages m → IsSized pages (record m { lists = slice_set m.lists i x })
+pub lists_sized : {layout : Layout} {m : SharedWords} (i x : ℕ) → IsSized layout m → IsSized layout (record m { lists = slice_set m.lists i x })
 lists_sized {m = m} i x z = sized_same (length-set m.lists i x) refl refl refl refl refl z
 
-pub wlinks_sized : {pages : ℕ} {m : SharedWords} (i x : ℕ) → IsSized pages m → IsSized pages (record m { wlinks = slice_set m.wlinks i x })
+pub wlinks_sized : {layout : Layout} {m : SharedWords} (i x : ℕ) → IsSized layout m → IsSized layout (record m { wlinks = slice_set m.wlinks i x })
 wlinks_sized {m = m} i x z = sized_same refl (length-set m.wlinks i x) refl refl refl refl z
 
-pub clinks_sized : {pages : ℕ} {m : SharedWords} (i x : ℕ) → IsSized pages m → IsSized pages (record m { clinks = slice_set m.clinks i x })
+pub clinks_sized : {layout : Layout} {m : SharedWords} (i x : ℕ) → IsSized layout m → IsSized layout (record m { clinks = slice_set m.clinks i x })
 clinks_sized {m = m} i x z = sized_same refl refl (length-set m.clinks i x) refl refl refl z
 
-pub cells_sized : {pages : ℕ} {m : SharedWords} (i x : ℕ) → IsSized pages m → IsSized pages (record m { cells = slice_set m.cells i x })
+pub cells_sized : {layout : Layout} {m : SharedWords} (i x : ℕ) → IsSized layout m → IsSized layout (record m { cells = slice_set m.cells i x })
 cells_sized {m = m} i x z = sized_same refl refl refl (length-set m.cells i x) refl refl z
 
-pub firsts_sized : {pages : ℕ} {m : SharedWords} (i x : ℕ) → IsSized pages m → IsSized pages (record m { firsts = slice_set m.firsts i x })
+pub firsts_sized : {layout : Layout} {m : SharedWords} (i x : ℕ) → IsSized layout m → IsSized layout (record m { firsts = slice_set m.firsts i x })
 firsts_sized {m = m} i x z = sized_same refl refl refl refl (length-set m.firsts i x) refl z
 
-pub places_sized : {pages : ℕ} {m : SharedWords} (i x : ℕ) → IsSized pages m → IsSized pages (record m { places = slice_set m.places i x })
+pub places_sized : {layout : Layout} {m : SharedWords} (i x : ℕ) → IsSized layout m → IsSized layout (record m { places = slice_set m.places i x })
 places_sized {m = m} i x z = sized_same refl refl refl refl refl (length-set m.places i x) z
 
 -- the words of a page change, and its frame to one as long as before
-pub page_sized : {pages : ℕ} {m : SharedWords} (p : ℕ) (w : PageWords) → length w.frame ≡ length (page_words_at m.page_words p).frame → IsSized pages m → IsSized pages (with_page_words m p w)
-page_sized {m = m} p w e z = record {
+pub page_sized : {layout : Layout} {m : SharedWords} (p : ℕ) (w : PageWords) → length w.frame ≡ length (page_words_at m.page_words p).frame → IsSized layout m → IsSized layout (with_page_words m p w)
+page_sized {layout = layout} {m = m} p w e z = record {
   lists = z.lists;
   wlinks = z.wlinks;
   clinks = z.clinks;
@@ -58,7 +58,7 @@ page_sized {m = m} p w e z = record {
   places = z.places;
   page_words = length-set m.page_words p w ∙ z.page_words;
   frames = λ q l. elim (ℕ_discrete q p) [
-    | yes y ↦ subst (λ (r : ℕ). length (page_words_at (set m.page_words p w) r).frame ≡ FRAME_WORDS) (sym y) (ap (λ (x : PageWords). length x.frame) (get_or-set_same m.page_words p w blank_words (let k = z.page_words in omega arith)) ∙ e ∙ ap (λ (r : ℕ). length (page_words_at m.page_words r).frame) (sym y) ∙ z.frames q l)
+    | yes y ↦ subst (λ (r : ℕ). length (page_words_at (set m.page_words p w) r).frame ≡ frame_words layout.page_size) (sym y) (ap (λ (x : PageWords). length x.frame) (get_or-set_same m.page_words p w blank_words (let k = z.page_words in omega arith)) ∙ e ∙ ap (λ (r : ℕ). length (page_words_at m.page_words r).frame) (sym y) ∙ z.frames q l)
     | no n ↦ ap (λ (x : PageWords). length x.frame) (get_or-set_other m.page_words p q w blank_words n) ∙ z.frames q l
   ];
 }

@@ -6,7 +6,7 @@ use lib.ListN.{get_elem?}
 use mathlib.Core.Option.{some}
 use Rattle.model_core.proofs.Groups.{changed, changed_else, changed_here}
 use Rattle.model_core.proofs.Tails.{tail_in}
-use Rattle.model_core.specs.{Actor, Advance, after, answered, cells_of, change_at, changes, current_page, entries, Entry, floor, found, frame_count, frame_word, group_end, is_held, is_whole, IsSized, LoadedMarks, lsn, mode, OnWord, page_words_at, PageWords, phase_log, SharedWords, stored_word, tail_of, tail_word, to_next_page, user_op, user_took, UserState, with_mark, with_page_words}
+use Rattle.model_core.specs.{Actor, Advance, after, answered, cells_of, change_at, changes, current_page, entries, Entry, floor, found, frame_count, frame_word, group_end, is_held, is_whole, IsSized, layout_of, LoadedMarks, lsn, mode, OnWord, page_words_at, PageWords, phase_log, SharedWords, stored_word, tail_of, tail_word, to_next_page, user_op, user_took, UserState, with_mark, with_page_words}
 use Rattle.model_core.specs.LogSide.{LogSide}
 use Rattle.model_core.specs.Setup.{Setup}
 use Rattle.model_core.specs.declared.ops.Op.{Op}
@@ -152,7 +152,7 @@ module _ (D : LogSide) (L : LogLaws D) (c : Setup) (m : SharedWords) (g : LogGho
       by false e = shift u.page u.cell u.copied u.loaded m.failed false user_step.Failed mine.loaded (let k = dead_at asks u.step mine.step in (k.0, (let n = eqb-false m.failed 0 e in omega arith), refl, k.1))
 
   -- words of the pages change, and the closer's: the log half doesn't read them
-  pub aside : (lists clinks : List ℕ) (page_words : List PageWords) (ctail : ℕ) (cheld : Bool) (w : UserState) → IsSized c.pages (record m { lists = lists; clinks = clinks; page_words = page_words; ctail = ctail; cheld = cheld }) → UserFits D c m g p seat w → ◌≡◌ {A = List Entry} (entries (actor.User w)) (entries (actor.User u)) → left_to_reserve (actor.User w) ≤ left_to_reserve (actor.User u)
+  pub aside : (lists clinks : List ℕ) (page_words : List PageWords) (ctail : ℕ) (cheld : Bool) (w : UserState) → IsSized (layout_of c) (record m { lists = lists; clinks = clinks; page_words = page_words; ctail = ctail; cheld = cheld }) → UserFits D c m g p seat w → ◌≡◌ {A = List Entry} (entries (actor.User w)) (entries (actor.User u)) → left_to_reserve (actor.User w) ≤ left_to_reserve (actor.User u)
       → Kept D c (record m { lists = lists; clinks = clinks; page_words = page_words; ctail = ctail; cheld = cheld }) g p (set actors seat (actor.User w))
   aside lists clinks page_words ctail cheld w sized f same le =
       let m' : SharedWords = record m { lists = lists; clinks = clinks; page_words = page_words; ctail = ctail; cheld = cheld } in
@@ -163,12 +163,12 @@ module _ (D : LogSide) (L : LogLaws D) (c : Setup) (m : SharedWords) (g : LogGho
       (still_words D c m g p actors seat u before at m' g refl refl refl refl refl refl refl refl refl)
       refl refl refl refl refl refl same le
 
-  moves : (lists clinks : List ℕ) (page_words : List PageWords) (ctail : ℕ) (cheld : Bool) → IsSized c.pages (record m { lists = lists; clinks = clinks; page_words = page_words; ctail = ctail; cheld = cheld }) → (page cell : ℕ) (checks : Bool) (ph : UserStep)
+  moves : (lists clinks : List ℕ) (page_words : List PageWords) (ctail : ℕ) (cheld : Bool) → IsSized (layout_of c) (record m { lists = lists; clinks = clinks; page_words = page_words; ctail = ctail; cheld = cheld }) → (page cell : ℕ) (checks : Bool) (ph : UserStep)
       → UserAt D c m g p seat (shifted D c m g p actors seat u before at page cell u.copied u.loaded u.code checks ph) ph
       → Kept D c (record m { lists = lists; clinks = clinks; page_words = page_words; ctail = ctail; cheld = cheld }) g p (set actors seat (actor.User (shifted D c m g p actors seat u before at page cell u.copied u.loaded u.code checks ph)))
   moves lists clinks page_words ctail cheld sized page cell checks ph h = aside lists clinks page_words ctail cheld (shifted D c m g p actors seat u before at page cell u.copied u.loaded u.code checks ph) sized (refit D c m g p actors seat u before at m g page cell u.copied u.loaded u.code checks ph refl refl refl mine.loaded h) refl (omega arith)
 
-  turned_any : (lists clinks : List ℕ) (page_words : List PageWords) (ctail : ℕ) (cheld : Bool) → IsSized c.pages (record m { lists = lists; clinks = clinks; page_words = page_words; ctail = ctail; cheld = cheld }) → UserAt D c m g p seat u user_step.StoreClosedLink → (b d e : Bool)
+  turned_any : (lists clinks : List ℕ) (page_words : List PageWords) (ctail : ℕ) (cheld : Bool) → IsSized (layout_of c) (record m { lists = lists; clinks = clinks; page_words = page_words; ctail = ctail; cheld = cheld }) → UserAt D c m g p seat u user_step.StoreClosedLink → (b d e : Bool)
       → Kept D c (record m { lists = lists; clinks = clinks; page_words = page_words; ctail = ctail; cheld = cheld }) g p (set actors seat (actor.User (record u { page = u.page + 1; cell = 0; step = cond b user_step.StoreClosedLink (cond d user_step.StoreNewest (cond e user_step.StoreFrame user_step.LoadFrame)) })))
   turned_any lists clinks page_words ctail cheld sized h true d e = moves lists clinks page_words ctail cheld sized (u.page + 1) 0 u.checks user_step.StoreClosedLink h
   turned_any lists clinks page_words ctail cheld sized h false true e = moves lists clinks page_words ctail cheld sized (u.page + 1) 0 u.checks user_step.StoreNewest h
@@ -193,7 +193,7 @@ module _ (D : LogSide) (L : LogLaws D) (c : Setup) (m : SharedWords) (g : LogGho
   abbrev stood : ℕ → Advance → Bool → UserStep → UserState
   stood t advance checks ph = record u { loaded = record u.loaded { ctail = t }; advance = advance; checks = checks; step = ph }
 
-  closes : (clinks : List ℕ) (ctail : ℕ) (cheld : Bool) → IsSized c.pages (record m { clinks = clinks; ctail = ctail; cheld = cheld }) → (t : ℕ) (advance : Advance) (put over : Bool) (x : AdvanceStep) → UserAt D c m g p seat u user_step.LoadCtail
+  closes : (clinks : List ℕ) (ctail : ℕ) (cheld : Bool) → IsSized (layout_of c) (record m { clinks = clinks; ctail = ctail; cheld = cheld }) → (t : ℕ) (advance : Advance) (put over : Bool) (x : AdvanceStep) → UserAt D c m g p seat u user_step.LoadCtail
       → Kept D c (record m { clinks = clinks; ctail = ctail; cheld = cheld }) g p (set actors seat (actor.User (stood t advance put (cond put user_step.LoadCtail (cond over user_step.ReloadCtail (user_step.AdvanceClosed x))))))
   closes clinks ctail cheld sized t advance put over x h = by put over
     where
@@ -211,12 +211,12 @@ module _ (D : LogSide) (L : LogLaws D) (c : Setup) (m : SharedWords) (g : LogGho
   takes_closed false h = closes m.clinks m.ctail m.cheld before.sized u.loaded.ctail (record u.advance { place = u.advance.tail }) true false advance_step.LoadLink h
 
   -- the word that it has loaded changes too
-  worded : (page_words : List PageWords) → IsSized c.pages (record m { page_words = page_words }) → (cell word : ℕ) (ph : UserStep) → UserAt D c m g p seat (record u { cell = cell; word = word; step = ph }) ph
+  worded : (page_words : List PageWords) → IsSized (layout_of c) (record m { page_words = page_words }) → (cell word : ℕ) (ph : UserStep) → UserAt D c m g p seat (record u { cell = cell; word = word; step = ph }) ph
       → Kept D c (record m { page_words = page_words }) g p (set actors seat (actor.User (record u { cell = cell; word = word; step = ph })))
   worded page_words sized cell word ph h = aside m.lists m.clinks page_words m.ctail m.cheld (record u { cell = cell; word = word; step = ph }) sized
       (record { own_seat = mine.own_seat; blocks = mine.blocks; lines = mine.lines; sound = mine.sound; are_bytes = mine.are_bytes; counted = mine.counted; answers = mine.answers; loaded = mine.loaded; step = h }) refl (omega arith)
 
-  cell_by : (page_words : List PageWords) → IsSized c.pages (record m { page_words = page_words }) → (cell : ℕ) (d e : Bool) → UserAt D c m g p seat u user_step.StoreFrame → Kept D c (record m { page_words = page_words }) g p (set actors seat (actor.User (record u { cell = cell; word = 0; step = cond d user_step.StoreNewest (cond e user_step.StoreFrame user_step.LoadFrame) })))
+  cell_by : (page_words : List PageWords) → IsSized (layout_of c) (record m { page_words = page_words }) → (cell : ℕ) (d e : Bool) → UserAt D c m g p seat u user_step.StoreFrame → Kept D c (record m { page_words = page_words }) g p (set actors seat (actor.User (record u { cell = cell; word = 0; step = cond d user_step.StoreNewest (cond e user_step.StoreFrame user_step.LoadFrame) })))
   cell_by page_words sized cell true e h = worded page_words sized cell 0 user_step.StoreNewest h
   cell_by page_words sized cell false true h = worded page_words sized cell 0 user_step.StoreFrame h
   cell_by page_words sized cell false false h = worded page_words sized cell 0 user_step.LoadFrame h
@@ -226,7 +226,7 @@ module _ (D : LogSide) (L : LogLaws D) (c : Setup) (m : SharedWords) (g : LogGho
   oldest_by false h = turned_any m.lists m.clinks m.page_words m.ctail m.cheld before.sized h (eqb (u.page + 1) (length (changes u))) (eqb 0 (length (change_at (changes u) (u.page + 1)).cells)) (is_whole (change_at (changes u) (u.page + 1)).cells 0)
 
   -- with its last latch free it is answered, or waits for its mark
-  free_by : (page_words : List PageWords) → IsSized c.pages (record m { page_words = page_words }) → (b d : Bool) → eqb (mode u) 0 ≡ d → UserAt D c m g p seat u user_step.ReleaseLatch
+  free_by : (page_words : List PageWords) → IsSized (layout_of c) (record m { page_words = page_words }) → (b d : Bool) → eqb (mode u) 0 ≡ d → UserAt D c m g p seat u user_step.ReleaseLatch
       → (g' : LogGhost) × Kept D c (record m { page_words = page_words }) g' p (set actors seat (actor.User (cond b (cond d (answered u) (record u { step = user_step.AwaitMark })) (record u { page = u.page + 1; step = user_step.ReleaseLatch })))) × (◌≡◌ {A = List Entry} (g'.log) (g.log))
   free_by page_words sized false d e h = (g, moves m.lists m.clinks page_words m.ctail m.cheld sized (u.page + 1) u.cell u.checks user_step.ReleaseLatch h, refl)
   free_by page_words sized true false e h = (g, moves m.lists m.clinks page_words m.ctail m.cheld sized u.page u.cell u.checks user_step.AwaitMark (h.0, h.1, h.2, eqb-false (mode u) 0 e), refl)

@@ -2,7 +2,7 @@
 use Rattle.std.proofs.Common.{Bool, List, arith, false, refl, set, sym, true, ℕ, ◌+◌, ◌<◌, ◌∙◌, ◌≡◌, ◌≢◌, ◌≤◌}
 use lib.ListN.{get_elem?}
 use Rattle.model_core.proofs.Lsns.{lsn_le}
-use Rattle.model_core.specs.{Actor, floor, holds, IsSized, SharedWords, writer_holds, WriterState}
+use Rattle.model_core.specs.{Actor, floor, holds, IsSized, layout_of, SharedWords, writer_holds, WriterState}
 use Rattle.model_core.specs.LogSide.{LogSide}
 use Rattle.model_core.specs.Setup.{Setup}
 use Rattle.model_core.specs.declared.steps.WriterStep.{WriterStep}
@@ -28,7 +28,7 @@ module _ (D : LogSide) (c : Setup) (m : SharedWords) (g : LogGhost) (p : D.Part)
       by false free = same free
 
   -- the writer moves, and holds what it held
-  pub wsteps : (m' : SharedWords) (g' : LogGhost) (q : D.Part) (point : D.ckpt q ≡ D.ckpt p) (w : WriterState) → IsSized c.pages m' → LogFacts D c m' g' q → WriterFits D c m' g' q seat w → Later D c m g m' g' seat → m'.flushed ≡ m.flushed → m'.ckpt ≡ m.ckpt → m'.device ≡ m.device → g'.holder ≡ g.holder → g'.log ≡ g.log → m'.sn ≡ m.sn
+  pub wsteps : (m' : SharedWords) (g' : LogGhost) (q : D.Part) (point : D.ckpt q ≡ D.ckpt p) (w : WriterState) → IsSized (layout_of c) m' → LogFacts D c m' g' q → WriterFits D c m' g' q seat w → Later D c m g m' g' seat → m'.flushed ≡ m.flushed → m'.ckpt ≡ m.ckpt → m'.device ≡ m.device → g'.holder ≡ g.holder → g'.log ≡ g.log → m'.sn ≡ m.sn
       → writer_holds w.step ≡ writer_holds s.step → (writer_holds s.step ≡ false → ◌≡◌ {A = D.Part} q p) → Kept D c m' g' q (set actors seat (actor.Writer w))
   wsteps m' g' q point w sized global f later flushed ckpt device holder log sn keep same = moved_on D c m m' g g' p q actors seat (actor.Writer s) (actor.Writer w) before at sized global f
       (λ j a n e. others_writer D c m m' g g' p q seat own.alone before.global later (record { writer = sym f.alone ∙ own.alone; flushed = flushed; ckpt_word = ckpt; failed = later.failed; point = point }) j a n (part_by q same j a n e) (before.each j a e))

@@ -3,7 +3,7 @@ use Rattle.std.specs.Prelude.{List, [], drop, length, true, ℕ, ◌+◌, ◌<�
 use lib.ListN.{get_elem?}
 use mathlib.Core.Option.{some}
 use Rattle.model_base.specs.declared.limits.TheConstants.{LSN_LIMIT}
-use Rattle.model_core.specs.{Actor, ChecksWithoutTail, entries, Entry, HasHolder, holds, IsSized, Line, lsn, SharedWords, sum_of}
+use Rattle.model_core.specs.{Actor, ChecksWithoutTail, entries, Entry, HasHolder, holds, IsSized, layout_of, Line, lsn, SharedWords, sum_of}
 use Rattle.model_core.specs.LogSide.{LogSide}
 use Rattle.model_core.specs.Setup.{Setup}
 use Rattle.model_logcore.specs.LogFacts.{LogGhost, LogFacts, sum_over_actors}
@@ -28,7 +28,7 @@ abbrev pub HasTaker : List Actor → ℕ → Type 0
 HasTaker actors seat = (a : Actor) × (get_elem? actors seat ≡ some a) × (holds a ≡ true)
 
 pub record LogHalf (D : LogSide) (c : Setup) (m : SharedWords) (g : LogGhost) (p : D.Part) (actors : List Actor) : Type 0 where
-  pub sized : IsSized c.pages m
+  pub sized : IsSized (layout_of c) m
   pub global : LogFacts D c m g p
   pub each : (seat : ℕ) (a : Actor) → get_elem? actors seat ≡ some a → LogFits D c m g p seat a
   pub turns : (seat : ℕ) (a : Actor) → get_elem? actors seat ≡ some a → holds a ≡ true → (m.device ≡ 1) × (seat ≡ g.holder)

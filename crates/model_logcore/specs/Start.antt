@@ -17,7 +17,7 @@ abbrev pub closer_start : Setup → CloserState
 closer_start c = new_closer
 
 abbrev pub cleaner_start : Setup → CleanerState
-cleaner_start c = new_cleaner c.pages c.page_size
+cleaner_start c = new_cleaner c.pages c.page_size c.slots
 
 abbrev pub checkpointer_start : Setup → CheckpointerState
 checkpointer_start c = new_checkpointer (lsn c.base) c.first_reader c.last_reader

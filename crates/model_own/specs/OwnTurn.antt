@@ -11,10 +11,12 @@ use Rattle.model_core.specs.Turn.{Core, DataServed, LogServed, Turn, list_word}
 use Rattle.model_core.specs.WordTurn.{answer_of, lists_left, words_left}
 use Rattle.model_core.specs.declared.ops.Answer.{Answer}
 use Rattle.model_core.specs.declared.ops.Step.{Step}
+use Rattle.model_core.specs.declared.words.Layout.{Layout}
 use Rattle.model_core.specs.Actors as actor
 
 -- the state of such a store: the log's work is in DEVICE's slot, or in the hand of the user that has taken it
 pub record OwnCore (D : LogSide) (E : DataSide) : Type 0 where
+  pub layout : Layout
   pub words : List ℕ
   pub log_part : D.Part
   pub data_part : E.Part
@@ -32,6 +34,7 @@ all_actors users work others =
 
 abbrev pub with_writer : {D : LogSide} {E : DataSide} → OwnCore D E → Core D E
 with_writer s = record {
+  layout = s.layout;
   words = s.words;
   log_part = s.log_part;
   data_part = s.data_part;
@@ -47,10 +50,12 @@ pub record UserTurn (D : LogSide) (E : DataSide) (old : OwnCore D E) (seat : ℕ
   pub code : ℕ
   pub log_served : LogServed D old.log_part (own_lends who old.work) (own_next who old.work) code new.log_part
   pub data_served : DataServed E old.data_part (own_lends who old.work) (own_next who old.work) code new.data_part
-  pub words : new.words ≡ words_left old.words (own_next who old.work)
+  pub layout : new.layout ≡ old.layout
+  pub words : new.words ≡ words_left old.layout old.words (own_next who old.work)
   pub lists : new.lists ≡ lists_left old.lists (list_word old.words) (own_next who old.work)
   pub answered : answer
-      ≡ answer_of old.lists (D.failed old.log_part) code (D.stable new.log_part) old.words (own_next who old.work)
+      ≡ answer_of old.layout old.lists (D.failed old.log_part) code (D.stable new.log_part) old.words
+      (own_next who old.work)
   pub users : new.users ≡ slice_set old.users seat (own_goes_on who old.work answer).0
   pub work : new.work ≡ (own_goes_on who old.work answer).1
   pub others : new.others ≡ old.others

@@ -4,7 +4,7 @@ use Rattle.std.proofs.Common.{◌+◌, ◌∙◌, ◌≡◌, ◌≢◌}
 use Rattle.std.specs.Prelude.{None}
 use lib.ListN.{get_elem?}
 use mathlib.Core.Option.{some}
-use Rattle.model_core.specs.{Actor, DataServed, filled, flat, flusher_op, lent, Listed, LogServed, next, old_of}
+use Rattle.model_core.specs.{Actor, DataServed, filled, flat, layout_of, flusher_op, lent, Listed, LogServed, next, old_of}
 use Rattle.model_core.specs.{OpWords, shared_left, SharedWords, user_op, writer_op}
 use Rattle.model_core.specs.DataSide.{DataSide}
 use Rattle.model_core.specs.LogSide.{LogSide}
@@ -198,30 +198,30 @@ module _ (D : LogSide) (L : LogLaws D) (E : DataSide) (EL : DataLaws E) (c : Set
 
     -- its Op names words that there are
     actor_words : (seat : ℕ) (a : Actor) → get_elem? (all_actors users k others) seat ≡ some a
-        → OpWords c.pages (next a)
+        → OpWords (layout_of c) (next a)
     actor_words seat a there = next_words D E c m runs.0 runs.1 ls p d (all_actors users k others) seat runs.2 a
         there
 
-    errand_words : (x : ErrandStep) → o.errand ≡ x → o.user.checks ≡ false → OpWords c.pages (errand_op o k x)
+    errand_words : (x : ErrandStep) → o.errand ≡ x → o.user.checks ≡ false → OpWords (layout_of c) (errand_op o k x)
     errand_words errand_step.Done is asks =
-        subst (λ (b : Bool). OpWords c.pages (cond b (op.Load word.Failed) (user_op o.user o.user.step))) asks
+        subst (λ (b : Bool). OpWords (layout_of c) (cond b (op.Load word.Failed) (user_op o.user o.user.step))) asks
         (actor_words i (actor.User o.user) (user_there users k others i o at))
     errand_words errand_step.TakeDevice is asks = tt
     errand_words errand_step.GiveBroken is asks = tt
     errand_words errand_step.Write is asks =
-        subst (λ (b : Bool). OpWords c.pages (cond b (op.Load word.Failed) (writer_op k.writer k.writer.step)))
+        subst (λ (b : Bool). OpWords (layout_of c) (cond b (op.Load word.Failed) (writer_op k.writer k.writer.step)))
         (work_in errand_step.Write is refl).writer_goes_on
         (actor_words (writer_seat users) (actor.Writer k.writer) (writer_there users k others))
     errand_words errand_step.Flush is asks =
-        subst (λ (b : Bool). OpWords c.pages (cond b (op.Load word.Failed) (flusher_op k.flusher k.flusher.step)))
+        subst (λ (b : Bool). OpWords (layout_of c) (cond b (op.Load word.Failed) (flusher_op k.flusher k.flusher.step)))
         (work_in errand_step.Flush is refl).flusher_goes_on
         (actor_words (flusher_seat users) (actor.Flusher k.flusher) (flusher_there users k others))
 
-    words_by : (b : Bool) → o.user.checks ≡ b → OpWords c.pages (asked b)
+    words_by : (b : Bool) → o.user.checks ≡ b → OpWords (layout_of c) (asked b)
     words_by true asks = tt
     words_by false asks = errand_words o.errand refl asks
 
-    pub own_words : OpWords c.pages (own_next o k)
+    pub own_words : OpWords (layout_of c) (own_next o k)
     own_words = words_by o.user.checks refl
 
   module _ (old new : OwnCore D E) (seat : ℕ) (answer : Answer) (step : Step)
@@ -245,7 +245,7 @@ module _ (D : LogSide) (L : LogLaws D) (E : DataSide) (EL : DataLaws E) (c : Set
       abbrev then : Answer → OwnUser × LogWork
       then r = own_goes_on t.who old.work r
 
-      names : OpWords c.pages its_op
+      names : OpWords (layout_of c) its_op
       names = own_words m old.lists old.log_part old.data_part old.users old.work old.others runs_before
           before.errands seat t.who t.who_is t.code new.log_part new.data_part
 
@@ -262,15 +262,15 @@ module _ (D : LogSide) (L : LogLaws D) (E : DataSide) (EL : DataLaws E) (c : Set
           before.errands seat t.who t.who_is t.code new.log_part new.data_part t.log_served t.data_served
 
       pub answered_by_name : ◌≡◌ {A = Answer} answer said
-      answered_by_name = t.answered ∙ answer_by_name D E c old.words old.lists old.log_part old.data_part
+      answered_by_name = t.answered ∙ answer_by_name D E c old.layout old.words old.lists old.log_part old.data_part
           actors_before before.running its_op names t.code new.log_part
 
       lists_are : ◌≡◌ {A = ℕ → List Listed} new.lists lists_then
-      lists_are = t.lists ∙ lists_by_name D E c old.words old.lists old.log_part old.data_part actors_before
+      lists_are = t.lists ∙ lists_by_name D E c old.layout old.words old.lists old.log_part old.data_part actors_before
           before.running its_op names
 
       words_are : new.words ≡ flat (shared_left m its_op)
-      words_are = t.words ∙ words_by_name D E c old.words old.lists old.log_part old.data_part actors_before
+      words_are = t.words ∙ words_by_name D E c old.layout old.words old.lists old.log_part old.data_part actors_before
           before.running its_op names
 
       users_are : new.users ≡ users_then said
@@ -300,6 +300,7 @@ module _ (D : LogSide) (L : LogLaws D) (E : DataSide) (EL : DataLaws E) (c : Set
           shared = shared_left m its_op;
           log_ghost = kept.0.0;
           page_ghost = kept.0.1;
+          layout_is = t.layout ∙ before.running.layout_is;
           flat_is = words_are;
           both = both;
         };

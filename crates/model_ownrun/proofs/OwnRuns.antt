@@ -76,16 +76,17 @@ own_turn_keeps_count D E old new seat answer how t = ⊎_elim
 module _ (D : LogSide) (L : LogLaws D) (E : DataSide) (EL : DataLaws E) (c : Setup) where
   -- the store as the run begins
   started : (s : OwnCore D E) (S : OwnStart D E c s)
-      → (r : RunningStore D E c s.words s.lists s.log_part s.data_part (all_actors s.users s.work s.others))
+      → (r : RunningStore D E c s.layout s.words s.lists s.log_part s.data_part (all_actors s.users s.work s.others))
       × (r.shared ≡ S.shared)
   started s S =
       subst (λ (ls : ℕ → List Listed).
-      (r : RunningStore D E c s.words ls s.log_part s.data_part (all_actors s.users s.work s.others))
+      (r : RunningStore D E c s.layout s.words ls s.log_part s.data_part (all_actors s.users s.work s.others))
       × (r.shared ≡ S.shared)) (sym S.lists_are) (
         record {
           shared = S.shared;
           log_ghost = start D c S.shared s.log_part S.seat_of S.writer S.store.words S.store.log_part;
           page_ghost = start_pages c;
+          layout_is = S.layout_is;
           flat_is = S.flat_is;
           both = both_start D E c S.shared s.log_part s.data_part S.seat_of S.writer
               (all_actors s.users s.work s.others) S.store S.room;

@@ -26,9 +26,7 @@ use Rattle.model_own.specs.declared.errand.ErrandStep.{ErrandStep}
 use Rattle.model_own.specs.declared.errand.ErrandStep.TheVariants as errand_step
 use Rattle.model_ownrun.proofs.Seats.{flusher_put, flusher_seat, flusher_there, user_put, user_there, writer_put}
 use Rattle.model_ownrun.proofs.Seats.{writer_seat, writer_there}
-use Rattle.model_ownrun.specs.OwnRuns.{own_store}
 use Rattle.model_running.proofs.SeatsKeep.{seats_keep, turn_keeps_seats}
-use Rattle.model_running.specs.{TakesTurns, tells_nothing}
 use Rattle.model_running.specs.Seated.{AreSeated}
 
 abbrev SameUser : OwnUser → OwnUser → Type 0

@@ -1,7 +1,7 @@
 -- A run of users that write for themselves, as it begins.
 use Rattle.std.specs.Prelude.{[], ℕ, ◌+◌, ◌<◌, ◌≡◌}
 use Rattle.model_base.specs.declared.limits.TheConstants.{LSN_LIMIT}
-use Rattle.model_core.specs.{flat, lsn, SharedWords}
+use Rattle.model_core.specs.{flat, layout_of, lsn, SharedWords}
 use Rattle.model_core.specs.DataSide.{DataSide}
 use Rattle.model_core.specs.LogSide.{LogSide}
 use Rattle.model_core.specs.Setup.{Setup}
@@ -14,6 +14,7 @@ use Rattle.model_running.specs.StartStore.{StartStore}
 
 pub record OwnStart (D : LogSide) (E : DataSide) (c : Setup) (s : OwnCore D E) : Type 0 where
   pub shared : SharedWords
+  pub layout_is : s.layout ≡ layout_of c
   pub flat_is : s.words ≡ flat shared
   pub lists_are : s.lists ≡ (λ _. [])
   pub seat_of : ℕ → ℕ

@@ -7,7 +7,7 @@ use native.Mathlib.Decide.{dec_le, ℕ_discrete}
 use Rattle.model_base.specs.{IsPageSize}
 use Rattle.model_base.specs.declared.limits.TheConstants.{LSN_LIMIT}
 use Rattle.model_core.proofs.Groups.{some_same}
-use Rattle.model_core.specs.{Actor, BatchPage, CleanerState, Entry, framed_page, KeptPage, Listed, lsn, page_words_at, SharedWords, UserState}
+use Rattle.model_core.specs.{Actor, BatchPage, CleanerState, Entry, frame_words, framed_page, KeptPage, Listed, lsn, page_words_at, SharedWords, UserState}
 use Rattle.model_core.specs.DataSide.{DataSide}
 use Rattle.model_core.specs.Setup.{Setup}
 use Rattle.model_pagecore.proofs.PageHistory.{last_most, upto_whole}
@@ -21,7 +21,6 @@ use Rattle.model_pagecore.specs.PageHalf.{At, CleanerAt, CleanerFits, InBatch, I
 use Rattle.model_pagecore.specs.Pages.{All, EndsAt, FrameStage, GroupInHand, Laid, Last, NewestStage, OnePage, ListingStage, Agree, none_in_hand, applied_upto}
 use Rattle.model_core.specs.declared.steps.CleanerStep.TheVariants as cleaner_step
 use Rattle.model_core.specs.Actors as actor
-use Rattle.model_core.specs.declared.limits.TheConstants.{FRAME_WORDS}
 use Rattle.model_core.proofs.FrameWords.{framed_long}
 
 -- a page with a batch is the batch's, or as it was
@@ -63,7 +62,7 @@ module _ (E : DataSide) (c : Setup) (seat_of : ℕ → ℕ) (m : SharedWords) (l
     now : CleanerAt E c m log h ls d seat v cleaner_step.WriteBatch
     now = subst (CleanerAt E c m log h ls d seat v) ph own.step
 
-    pub can_batch : IsPageSize c.page_size → ((p : ℕ) → p < c.pages → length (page_words_at m.page_words p).frame ≡ FRAME_WORDS) → m.flushed < LSN_LIMIT → CanBatch E c h.kept_page v.batch d
+    pub can_batch : IsPageSize c.page_size → ((p : ℕ) → p < c.pages → length (page_words_at m.page_words p).frame ≡ frame_words c.page_size) → m.flushed < LSN_LIMIT → CanBatch E c h.kept_page v.batch d
     can_batch size frames small = record {
       sound = (own.sound (ap runs ph)).0;
       some_pages = now.1;
@@ -142,6 +141,7 @@ module _ (E : DataSide) (c : Setup) (seat_of : ℕ → ℕ) (m : SharedWords) (l
                 alone = own.alone;
                 pages = own.pages;
                 page_size = own.page_size;
+                slots = own.slots;
                 page = own.page;
                 flushed = own.flushed;
                 sound = λ _. (sound, refl);
@@ -193,7 +193,7 @@ module _ (E : DataSide) (c : Setup) (seat_of : ℕ → ℕ) (m : SharedWords) (l
           h',
           page_moved E c m m log log stable stable h h' ls ls d e actors seat (actor.Cleaner (record v { code = code; step = cleaner_step.StoreFailed }))
               (record { closed_links = P.closed_links; lists = P.lists; each_page = P.each_page; within = P.within; flushed = P.flushed; stable_top = P.stable_top; stored = holds; unfinished = left; alone = P.alone })
-              (record { alone = own.alone; pages = own.pages; page_size = own.page_size; page = own.page; flushed = own.flushed; sound = λ z. absurd (cc); apart = own.apart; few = own.few; cause = λ _. cause; step = held })
+              (record { alone = own.alone; pages = own.pages; page_size = own.page_size; slots = own.slots; page = own.page; flushed = own.flushed; sound = λ z. absurd (cc); apart = own.apart; few = own.few; cause = λ _. cause; step = held })
               (λ j a n z. page_others E c seat_of m m log log h h' ls ls d e seat j n
               (pages_same refl refl refl refl (omega arith))
               (λ other. absurd (other own.alone))

@@ -56,7 +56,7 @@ module _ (E : DataSide) (c : Setup) (seat_of : ℕ → ℕ) (m : SharedWords) (l
     -- it finds a list held
     pub keeps_list_held : v.step ≡ cleaner_step.RemoveFromList → Now m h (record v { checks = true; step = cleaner_step.RemoveFromList })
     keeps_list_held ph = page_quiet E c seat_of m log stable h ls d actors seat before mates (actor.Cleaner (record v { checks = true; step = cleaner_step.RemoveFromList }))
-        (at_stage E c seat_of m log stable h ls d actors seat before mates W v at (record v { checks = true; step = cleaner_step.RemoveFromList }) (ap runs ph) refl refl refl refl refl (λ z. absurd (cc)) m h ls refl refl (subst (CleanerAt E c m log h ls d seat v) ph own.step))
+        (at_stage E c seat_of m log stable h ls d actors seat before mates W v at (record v { checks = true; step = cleaner_step.RemoveFromList }) (ap runs ph) refl refl refl refl refl refl (λ z. absurd (cc)) m h ls refl refl (subst (CleanerAt E c m log h ls d seat v) ph own.step))
 
     -- the words of the first page of the batch change, but for its frame and NEWEST
     module _ (long : length m.page_words ≡ c.pages) (t : ListingStage) (o : Unlisting E c m log h ls d seat v t) (w' : PageWords) (fr : w'.frame ≡ (page_words_at m.page_words p).frame) (nw : w'.newest ≡ (page_words_at m.page_words p).newest) where
@@ -95,7 +95,7 @@ module _ (E : DataSide) (c : Setup) (seat_of : ℕ → ℕ) (m : SharedWords) (l
         leaf_step E c seat_of m log stable h ls d actors seat before mates p w' h.holder a.there long (inr a.mine) (λ _ _. refl) (actor.Cleaner (record v { step = cleaner_step.GiveList }))
         (latched_sheet E c seat_of m log stable h ls d actors seat before mates p w' a.there a.latched (λ z. absurd (omega arith)))
         (λ n. absurd (n own.alone)) (λ _. a.mine)
-        (at_stage E c seat_of m log stable h ls d actors seat before mates W v at (record v { step = cleaner_step.GiveList }) (ap runs ph) refl refl refl refl refl (λ z. absurd (cc)) m' h ls refl refl
+        (at_stage E c seat_of m log stable h ls d actors seat before mates W v at (record v { step = cleaner_step.GiveList }) (ap runs ph) refl refl refl refl refl refl (λ z. absurd (cc)) m' h ls refl refl
         ((o.0.0, others_in long InWordOnly o.0 w' refl refl 1 (omega arith) o.0.1, first_in long InWordOnly o.0 w' refl refl Unlisted here, o.0.3), o.1))
 
     -- it gives the list back
@@ -105,7 +105,7 @@ module _ (E : DataSide) (c : Setup) (seat_of : ℕ → ℕ) (m : SharedWords) (l
         let m' : SharedWords = record m { lists = slice_set m.lists (p % 4) 0 } in
         let same = list_at E c seat_of m log stable h ls d actors seat before mates (p % 4) 0 h.list_holder ls long (omega arith) (inr o.1.1) (λ _ _. refl) in
         list_step E c seat_of m log stable h ls d actors seat before mates (p % 4) 0 h.list_holder ls long (omega arith) (inr o.1.1) (λ _ _. refl) (actor.Cleaner (record v { step = cleaner_step.ReleaseLatch })) before.paged.lists before.paged.each_page (λ _ _ _. refl)
-        (at_stage E c seat_of m log stable h ls d actors seat before mates W v at (record v { step = cleaner_step.ReleaseLatch }) (ap runs ph) refl refl refl refl refl (λ z. absurd (cc)) m' h ls refl refl (
+        (at_stage E c seat_of m log stable h ls d actors seat before mates W v at (record v { step = cleaner_step.ReleaseLatch }) (ap runs ph) refl refl refl refl refl refl (λ z. absurd (cc)) m' h ls refl refl (
           o.0.0,
           (λ i y l is. let r = o.0.1 i y l is in (record { held = same y.page none_in_hand All Last Agree refl r.0.held; newest = r.0.newest; bytes = r.0.bytes; low = r.0.low }, r.1)),
           (λ y is. let r = o.0.2 y is in record { held = same y.page none_in_hand All Last Unlisted refl r.held; newest = r.newest; bytes = r.bytes; low = r.low }),
@@ -128,6 +128,7 @@ module _ (E : DataSide) (c : Setup) (seat_of : ℕ → ℕ) (m : SharedWords) (l
           alone = own.alone;
           pages = own.pages;
           page_size = own.page_size;
+          slots = own.slots;
           page = own.page;
           flushed = own.flushed;
           sound = λ _. own.sound (ap runs ph);

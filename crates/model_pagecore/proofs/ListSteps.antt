@@ -177,6 +177,7 @@ module _ (E : DataSide) (c : Setup) (seat_of : ℕ → ℕ) (m : SharedWords) (l
               alone = F.alone;
               pages = F.pages;
               page_size = F.page_size;
+              slots = F.slots;
               page = F.page;
               flushed = F.flushed;
               sound = λ z. F.sound (ap runs ph);

@@ -300,6 +300,7 @@ module _ (E : DataSide) (c : Setup) (seat_of : ℕ → ℕ) (m m' : SharedWords)
       alone = o.alone;
       pages = o.pages;
       page_size = o.page_size;
+      slots = o.slots;
       page = o.page;
       flushed = (let a = o.flushed in let b = later.flushed in omega arith);
       sound = λ z. let r = o.sound z in (ap E.failed still.store ∙ r.0, still.unfinished ∙ r.1);

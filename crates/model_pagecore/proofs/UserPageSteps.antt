@@ -1,5 +1,5 @@
 -- A user's other steps on its pages.
-use Rattle.std.proofs.Common.{Bool, List, [], ap, arith, cond, drop, eq-eqb, eqb, eqb-true, false, inl, inr, leb-true, length, length-drop, length-take-le, refl, set, subst, suc, sym, take, true, ℕ, ⊎_elim, ◌%◌, ◌+◌, ◌-◌, ◌/◌, ◌<◌, ◌∙◌, ◌∷◌, ◌≡◌, ◌≢◌, ◌≤◌, ◌⊎◌}
+use Rattle.std.proofs.Common.{Bool, List, [], ap, arith, cond, drop, eq-eqb, eqb, eqb-true, false, inl, inr, leb-true, length, length-drop, length-take-le, refl, set, subst, suc, sym, take, true, ℕ, ⊎_elim, ◌%◌, ◌*◌, ◌+◌, ◌-◌, ◌/◌, ◌<◌, ◌∙◌, ◌∷◌, ◌≡◌, ◌≢◌, ◌≤◌, ◌⊎◌}
 use Rattle.std.proofs.lemmas.Bool.{eqb-false}
 use Rattle.std.proofs.lemmas.List.{get_or-drop, get_or-take}
 use Rattle.std.specs.Prelude.{get_or, slice_index, slice_set}
@@ -10,12 +10,12 @@ use Rattle.model_core.proofs.Groups.{changed, changed_else, changed_here}
 use Rattle.model_core.proofs.Lsns.{lsn_some}
 unfoldable use Rattle.model_core.specs.{lanes, packed}
 use Rattle.model_base.specs.{IsPageSize}
-use Rattle.model_core.specs.{Actor, Advance, after_link, answered, cells_of, CellWrite, change_at, changes, current_page, Entry, entry, frame_count, frame_word, framed_page, group_end, is_whole, line, Listed, lsn, mode, next_puts, page_words_at, PageWords, put_lanes, put_of, same_word, SharedWords, stored_word, to_next_page, user_took, UserState, with_page_words, word_step}
+use Rattle.model_core.specs.{Actor, Advance, after_link, answered, cells_of, CellWrite, change_at, changes, current_page, Entry, entry, frame_count, frame_word, frame_words, framed_page, group_end, is_whole, line, Listed, lsn, mode, next_puts, page_words_at, PageWords, put_lanes, put_of, same_word, SharedWords, stored_word, to_next_page, user_took, UserState, with_page_words, word_step}
 use Rattle.model_core.specs.DataSide.{DataSide}
 use Rattle.model_core.specs.Setup.{Setup}
 use Rattle.model_core.specs.declared.steps.UserStep.{UserStep}
 use Rattle.model_pagecore.proofs.FrameStores.{word_stored, writes_next}
-use Rattle.model_core.proofs.PageSizes.{has_room}
+use Rattle.model_core.proofs.PageSizes.{frame_fills}
 use Rattle.model_core.proofs.FrameWords.{Ascend, cell_at, counted_in_word, InWord, whole_word_put}
 use Rattle.model_core.proofs.Lanes.{lanes_long}
 use Rattle.model_pagecore.proofs.PageHistory.{last_after, take_all, whole_after}
@@ -26,7 +26,6 @@ use Rattle.model_pagecore.specs.PageHalf.{At, HasPagesInHand, IsNear, PageHalf, 
 use Rattle.model_pagecore.specs.Pages.{InListOnly, All, Before, AgreeBelow, Cells, FrameStage, Laid, Last, NewestStage, PageIs, ListingStage, IsListed, StartsAt, Agree, cells_on, none_in_hand, write_cells, is_changed_page, applied_all}
 use Rattle.model_core.specs.declared.steps.UserStep.TheVariants as user_step
 use Rattle.model_core.specs.Actors as actor
-use Rattle.model_core.specs.declared.limits.TheConstants.{FRAME_CELLS, FRAME_WORDS}
 
 -- a user that goes on with one of two steps, and advances no tail at either
 module _ (E : DataSide) (c : Setup) (m : SharedWords) (log : List Entry) (h : PageGhost) (ls : ℕ → List Listed) (d : E.Part) (seat : ℕ) (v : Advance) where
@@ -156,7 +155,7 @@ module _ (E : DataSide) (c : Setup) (seat_of : ℕ → ℕ) (m : SharedWords) (l
             some_of false e = absurd (cc)
 
     -- it stores that word
-    pub keeps_store_frame : IsPageSize c.page_size → length m.page_words ≡ c.pages → ((q : ℕ) → q < c.pages → length (page_words_at m.page_words q).frame ≡ FRAME_WORDS) → u.step ≡ user_step.StoreFrame → Now (with_page_words m p (record w { frame = slice_set w.frame (frame_word u) (stored_word u) })) h (user_took u 0 user_step.StoreFrame)
+    pub keeps_store_frame : IsPageSize c.page_size → length m.page_words ≡ c.pages → ((q : ℕ) → q < c.pages → length (page_words_at m.page_words q).frame ≡ frame_words c.page_size) → u.step ≡ user_step.StoreFrame → Now (with_page_words m p (record w { frame = slice_set w.frame (frame_word u) (stored_word u) })) h (user_took u 0 user_step.StoreFrame)
     keeps_store_frame size long sizes ph =
         let o : UserPagesAt E c m log h ls d seat u user_step.StoreFrame = subst (UserPagesAt E c m log h ls d seat u) ph own.step in
         let work = o.0 in let near = o.1 in let lt = o.2 in let word_is = o.3 in
@@ -167,7 +166,7 @@ module _ (E : DataSide) (c : Setup) (seat_of : ℕ → ℕ) (m : SharedWords) (l
         let b0 : List ℕ = applied_all p (take work.at log) (c.opened p).bytes in
         let cells = (mine_cells near.1).0 in
         let old : framed_page c.page_size w.frame ≡ write_cells (take u.cell (cells_of u)) b0 = a.page.frame ∙ ap (λ (l : List CellWrite). write_cells (take u.cell l) b0) cells in
-        let there : frame_word u < length w.frame = within_word (sizes p a.there) (has_room c.page_size size) (own.within u.k u.page u.cell near.1) in
+        let there : frame_word u < length w.frame = within_word (sizes p a.there) (frame_fills c.page_size size) (own.within u.k u.page u.cell near.1) in
         let in_word : InWord (frame_word u) (next_puts u) = counted_in_word (frame_word u) (drop u.cell (cells_of u)) (λ i. subst (λ (z : CellWrite). z.value < 256) (sym (get_or-drop u.cell (cells_of u) i (record { at = 0; value = 0 }))) (own.are_bytes u.k u.page (u.cell + i))) in
         let new : framed_page c.page_size (slice_set w.frame (frame_word u) (stored_word u)) ≡ write_cells (take (u.cell + n) (cells_on p (changes u))) b0 =
         ap (λ (l : List ℕ). framed_page c.page_size (slice_set w.frame (frame_word u) (packed 0 l))) (same_lanes in_word word_is)
@@ -214,7 +213,7 @@ module _ (E : DataSide) (c : Setup) (seat_of : ℕ → ℕ) (m : SharedWords) (l
                 let eb : (cell_at (next_puts u) b).at ≡ (cell_at (cells_of u) (u.cell + b)).at = ap (λ (x : CellWrite). x.at) at_b in
                 omega arith
 
-        within_word : length w.frame ≡ FRAME_WORDS → c.page_size ≤ FRAME_CELLS → (put_of u).at < c.page_size → frame_word u < length w.frame
+        within_word : length w.frame ≡ frame_words c.page_size → 8 * frame_words c.page_size ≡ c.page_size → (put_of u).at < c.page_size → frame_word u < length w.frame
         within_word long room lt = omega arith
 
     -- it stores NEWEST

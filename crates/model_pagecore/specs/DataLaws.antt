@@ -6,7 +6,6 @@ use Rattle.model_base.specs.declared.limits.TheConstants.{LSN_LIMIT}
 use Rattle.model_core.specs.DataSide.{DataSide}
 use Rattle.model_core.specs.{BatchPage, IsDataCode, KeptPage}
 use Rattle.model_core.specs.Setup.{Setup}
-use Rattle.model_core.specs.declared.limits.TheConstants.{BATCH_PAGES}
 
 -- the kept pages with a batch
 abbrev pub kept_in : List BatchPage → ℕ → KeptPage → KeptPage
@@ -30,7 +29,7 @@ module _ (E : DataSide) where
   pub record CanBatch (c : Setup) (kept_page : ℕ → KeptPage) (batch : List BatchPage) (d : E.Part) : Type 0 where
     pub sound : E.failed d ≡ false
     pub some_pages : 0 < length batch
-    pub few : length batch ≤ BATCH_PAGES
+    pub few : length batch ≤ c.slots
     pub each : (i : ℕ) (t : BatchPage) → get_elem? batch i ≡ some t → IsStorePage c t
     -- no page goes back, and none has two contents for one lsn
     pub newer : (i : ℕ) (t : BatchPage) → get_elem? batch i ≡ some t → ((kept_page t.page).lsn ≤ t.lsn) × ((kept_page t.page).lsn ≡ t.lsn → (kept_page t.page).bytes ≡ t.bytes)

@@ -21,7 +21,7 @@ use Rattle.model_core.specs.declared.steps.CleanerStep.TheVariants as cleaner_st
 use Rattle.model_core.specs.declared.steps.CheckpointerStep.TheVariants as checkpointer_step
 use Rattle.model_core.specs.Actors as actor
 use Rattle.model_base.specs.declared.limits.TheConstants.{BLOCK_SIZE}
-use Rattle.model_core.specs.declared.limits.TheConstants.{CLOSED_LINKS, FLUSH_LISTS, BATCH_PAGES, WORD_LANES}
+use Rattle.model_core.specs.declared.limits.TheConstants.{CLOSED_LINKS, FLUSH_LISTS, WORD_LANES}
 
 -- until the cleaner ends the data part hasn't failed
 abbrev pub runs : CleanerStep → Bool
@@ -178,7 +178,7 @@ module _ (E : DataSide) (c : Setup) (m : SharedWords) (log : List Entry) (h : Pa
   -- it looks at a page with the batch so far
   pub record Looks (seat flushed : ℕ) (batch : List BatchPage) (page left pages : ℕ) : Type 0 where
     pub held : AreIn seat flushed batch 0
-    pub few : length batch < BATCH_PAGES
+    pub few : length batch < c.slots
     pub more : 0 < left
     -- the pages still to come in the round aren't in the batch
     pub passed : (i : ℕ) (x : BatchPage) → get_elem? batch i ≡ some x → (page ≤ x.page → page + left ≤ x.page) × (page + left ≤ x.page + pages)
@@ -223,11 +223,12 @@ module _ (E : DataSide) (c : Setup) (m : SharedWords) (log : List Entry) (h : Pa
     pub alone : seat ≡ c.cleaner
     pub pages : v.pages ≡ c.pages
     pub page_size : v.page_size ≡ c.page_size
+    pub slots : v.slots ≡ c.slots
     pub page : v.page < c.pages
     pub flushed : v.flushed ≤ m.flushed
     pub sound : runs v.step ≡ true → (E.failed d ≡ false) × (h.unfinished ≡ [])
     pub apart : AreApart v.batch
-    pub few : length v.batch ≤ BATCH_PAGES
+    pub few : length v.batch ≤ c.slots
     pub cause : v.step ≡ cleaner_step.StoreFailed → E.Cause d v.code
     pub step : CleanerAt seat v v.step
 

@@ -3,7 +3,7 @@ use Rattle.std.proofs.Common.{List, [], arith, false, length, subst, sym, â„•, â
 use lib.ListN.{get_elem?}
 use mathlib.Core.Option.{some}
 use Rattle.model_base.specs.declared.limits.TheConstants.{LSN_LIMIT}
-use Rattle.model_core.specs.{Actor, BatchPage, change_at, CheckpointerState, CleanerState, Entry, IsSized, Listed, lsn, PageChange, SharedWords, UserState}
+use Rattle.model_core.specs.{Actor, BatchPage, change_at, CheckpointerState, CleanerState, Entry, IsSized, layout_of, Listed, lsn, PageChange, SharedWords, UserState}
 use Rattle.model_core.specs.DataSide.{DataSide}
 use Rattle.model_core.specs.LogSide.{LogSide}
 use Rattle.model_core.specs.Setup.{Setup}
@@ -32,7 +32,7 @@ module _ (D : LogSide) (L : LogLaws D) (E : DataSide) (EL : DataLaws E) (c : Set
   B : PageHalf E c m g.log (D.stable p) h ls d actors
   B = both.paged
 
-  Z : IsSized c.pages m
+  Z : IsSized (layout_of c) m
   Z = M.sized
 
   W : Laid (lsn c.base) (lsn m.sn) g.log

@@ -70,7 +70,7 @@ module _ (D : LogSide) (L : LogLaws D) (E : DataSide) (EL : DataLaws E) (c : Set
 
     -- it has failed, and holds what it held
     dead_fits : (n : ℕ) (checks : Bool) → CleanerFits E c m g.log h ls d seat (record x { checks = checks; code = n; step = cleaner_step.Failed })
-    dead_fits n checks = record { alone = XF.alone; pages = XF.pages; page_size = XF.page_size; page = XF.page; flushed = XF.flushed; sound = λ z. absurd (cc); apart = XF.apart; few = XF.few; cause = λ z. absurd (cc); step = cleaner_still_holds E c m g.log h ls d seat x x.step (held_by D E c m g h ls p d actors seat both (actor.Cleaner x) at) XF.step }
+    dead_fits n checks = record { alone = XF.alone; pages = XF.pages; page_size = XF.page_size; slots = XF.slots; page = XF.page; flushed = XF.flushed; sound = λ z. absurd (cc); apart = XF.apart; few = XF.few; cause = λ z. absurd (cc); step = cleaner_still_holds E c m g.log h ls d seat x x.step (held_by D E c m g h ls p d actors seat both (actor.Cleaner x) at) XF.step }
 
     -- so too once it has stored its code
     stored_fits : (n : ℕ) (checks : Bool) → CleanerFits E c (record m { failed = n }) g.log h ls d seat (record x { checks = checks; code = n; step = cleaner_step.Failed })
@@ -79,7 +79,7 @@ module _ (D : LogSide) (L : LogLaws D) (E : DataSide) (EL : DataLaws E) (c : Set
 
     cleaner_page : (f : CleanerStep) → x.step ≡ f → ◌≡◌ {A = D.Part} q p → DataServed E d (Batch x.batch) (cleaner_op x f) code e
         → Done (shared_left m (cleaner_op x f)) g.log (lists_left ls (λ i. slice_index m.lists i) (cleaner_op x f)) (actor.Cleaner (cleaner_took x (shared_answer ls (D.failed p) code (D.stable q) m (cleaner_op x f)) f))
-    cleaner_page cleaner_step.LoadFlushed is s v = as_is D E c m h actors seat p q d e _ s v (h, keeps_load_flushed E c g.seat_of m g.log (D.stable p) h ls d actors seat both.paged (mates both) (laid_of both) x at is, unmoved)
+    cleaner_page cleaner_step.LoadFlushed is s v = as_is D E c m h actors seat p q d e _ s v (h, keeps_load_flushed E c g.seat_of m g.log (D.stable p) h ls d actors seat both.paged (mates both) (laid_of both) x at both.script.slots is, unmoved)
     cleaner_page cleaner_step.LoadOldest is s v = as_is D E c m h actors seat p q d e _ s v (h, keeps_seen E c g.seat_of m g.log (D.stable p) h ls d actors seat both.paged (mates both) (laid_of both) x at is, unmoved)
     cleaner_page cleaner_step.TakeLatch is s v = latched_by (eqb (page_words_at m.page_words x.page).latch 0) refl is s v
     cleaner_page cleaner_step.LoadNewest is s v = as_is D E c m h actors seat p q d e _ s v (h, keeps_read_newest E c g.seat_of m g.log (D.stable p) h ls d actors seat both.paged (mates both) (laid_of both) x at both.script.page_size is, unmoved)
@@ -94,7 +94,7 @@ module _ (D : LogSide) (L : LogLaws D) (E : DataSide) (EL : DataLaws E) (c : Set
     cleaner_page cleaner_step.Failed is s v = as_is D E c m h actors seat p q d e _ s v (rested both seat (actor.Cleaner x) at)
 
     cleaner_hears : (b : Bool) → ◌≡◌ {A = D.Part} q p → ◌≡◌ {A = E.Part} e d → Done m g.log ls (actor.Cleaner (cond b (record x { checks = false }) (record x { checks = false; code = m.failed; step = cleaner_step.Failed })))
-    cleaner_hears true s v = as_is D E c m h actors seat p q d e _ s v (h, page_quiet E c g.seat_of m g.log (D.stable p) h ls d actors seat both.paged (mates both) (actor.Cleaner (record x { checks = false })) (record { alone = XF.alone; pages = XF.pages; page_size = XF.page_size; page = XF.page; flushed = XF.flushed; sound = XF.sound; apart = XF.apart; few = XF.few; cause = XF.cause; step = XF.step }), unmoved)
+    cleaner_hears true s v = as_is D E c m h actors seat p q d e _ s v (h, page_quiet E c g.seat_of m g.log (D.stable p) h ls d actors seat both.paged (mates both) (actor.Cleaner (record x { checks = false })) (record { alone = XF.alone; pages = XF.pages; page_size = XF.page_size; slots = XF.slots; page = XF.page; flushed = XF.flushed; sound = XF.sound; apart = XF.apart; few = XF.few; cause = XF.cause; step = XF.step }), unmoved)
     cleaner_hears false s v = as_is D E c m h actors seat p q d e _ s v (h, page_quiet E c g.seat_of m g.log (D.stable p) h ls d actors seat both.paged (mates both) (actor.Cleaner (record x { checks = false; code = m.failed; step = cleaner_step.Failed })) (dead_fits m.failed false), unmoved)
 
   pub cleaner_turn : (x : CleanerState) → get_elem? actors seat ≡ some (actor.Cleaner x) → (b : Bool) → LogServed D p (Batch x.batch) (cond b (op.Load word.Failed) (cleaner_op x x.step)) code q → DataServed E d (Batch x.batch) (cond b (op.Load word.Failed) (cleaner_op x x.step)) code e

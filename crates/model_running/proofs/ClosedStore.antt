@@ -13,10 +13,7 @@ use Rattle.model_report.specs.{wholes_of}
 use Rattle.model_log.specs.{start_after}
 use Rattle.model_parts.specs.{LogHolds}
 use Rattle.model_log.specs.declared.group.Whole.{Whole}
-use Rattle.model_theorem.specs.{AreGiven, DataHolds, IsClosed, IsHeld, Opened}
-use Rattle.model_running.specs.RunningStore.{IsRunning}
-use Rattle.model_running.specs.Schedule.{HaveEnded}
-use Rattle.model_running.specs.Seated.{AreSeated}
+use Rattle.model_theorem.specs.{AreGiven, DataHolds, IsHeld, Opened}
 use Rattle.model_script.specs.declared.script.ScriptLine.{ScriptLine}
 
 module _ (D : LogSide) (E : DataSide) (c : Setup) (script : List ScriptLine) (opened : Opened) (number : ℕ) (log_disk data_disk : Disk) (s : Core D E) (start : lsn c.base ≡ start_after opened.end) (given : AreGiven script opened)

@@ -6,7 +6,7 @@ use lib.ListN.{get_elem?}
 use mathlib.Core.Option.{some}
 use Rattle.model_core.proofs.Lists.{set_at}
 use Rattle.model_running.proofs.Filling.{fills_keep, is_filled, next_filled}
-use Rattle.model_core.specs.{Actor, answer_of, appended, Core, DataServed, Entry, filled, lent, list_word, log_left, LogServed, Listed, lists_left, next, OwnServed, took, without, words_left}
+use Rattle.model_core.specs.{Actor, answer_of, appended, Core, DataServed, Entry, filled, layout_of, lent, list_word, log_left, LogServed, Listed, lists_left, next, OwnServed, took, without, words_left}
 use Rattle.model_core.specs.DataSide.{DataSide}
 use Rattle.model_core.specs.LogSide.{LogSide}
 use Rattle.model_core.specs.Setup.{Setup}
@@ -20,6 +20,7 @@ use Rattle.model_running.proofs.FlatWords.{flat_read}
 use Rattle.model_running.proofs.Turns.{keeps_turn, RunsOver}
 use Rattle.model_running.specs.RunningStore.{BothHalves, IsRunning, RunningStore}
 use Rattle.model_core.specs.declared.ops.Op.TheVariants as op
+use Rattle.model_core.specs.declared.words.Layout.{Layout}
 use Rattle.model_core.specs.declared.words.Word.TheVariants as word
 
 -- the flush lists after an Op depend on the turn words of the lists alone
@@ -63,12 +64,13 @@ module _ (D : LogSide) (L : LogLaws D) (E : DataSide) (EL : DataLaws E) (c : Set
   actors_then said is = ap (λ (r : Answer). set actors_filled seat (took who_filled r)) is
       ∙ set-set old.actors seat who_filled (took who_filled answer) ∙ sym t.actors
 
-  pub turn_leaves : RunsOver D E c new.words new.lists new.log_part new.data_part new.actors log_then
+  pub turn_leaves : RunsOver D E c new.layout new.words new.lists new.log_part new.data_part new.actors log_then
   turn_leaves =
-      let ready : RunningStore D E c old.words old.lists old.log_part old.data_part actors_filled = record {
+      let ready : RunningStore D E c old.layout old.words old.lists old.log_part old.data_part actors_filled = record {
         shared = before.shared;
         log_ghost = before.log_ghost;
         page_ghost = before.page_ghost;
+        layout_is = before.layout_is;
         flat_is = before.flat_is;
         both = both_filled;
       } in
@@ -76,26 +78,27 @@ module _ (D : LogSide) (L : LogLaws D) (E : DataSide) (EL : DataLaws E) (c : Set
       let d = new.data_part in
       let stored : DataServed E old.data_part (lent who_filled) (next who_filled) t.code d =
       subst (λ (o : Op). DataServed E old.data_part (lent who_filled) o t.code d) (sym same_op) t.data_served in
-      let after = keeps_turn D L E EL c old.words old.lists old.log_part old.data_part actors_filled seat
+      let after = keeps_turn D L E EL c old.layout old.words old.lists old.log_part old.data_part actors_filled seat
       who_filled ready filled_at (is_filled t.who t.filling t.fills) t.code p d served_filled stored
       (subst (λ (o : Op). OwnServed o t.code) (sym same_op) t.own_served) in
       let mine : ℕ → ℕ = λ i. slice_index before.shared.lists i in
       let words_same : (i : ℕ) → i < 4 → mine i ≡ list_word old.words i =
       λ i l. sym (ap (λ (ws : List ℕ). slice_index ws (8 + i)) before.flat_is
-      ∙ flat_read c.pages before.shared before.both.logged.sized (word.List i) l) in
+      ∙ flat_read (layout_of c) before.shared before.both.logged.sized (word.List i) l) in
       let lists : ◌≡◌ {A = ℕ → List Listed} (lists_left old.lists mine (next who_filled)) new.lists =
       lists_same old.lists mine (list_word old.words) words_same (next who_filled)
       ∙ ap {B = ℕ → List Listed} (λ (o : Op). lists_left old.lists (list_word old.words) o) same_op ∙ sym t.lists in
       let said : ◌≡◌ {A = Answer}
-      (answer_of old.lists (D.failed old.log_part) t.code (D.stable p) old.words (next who_filled)) answer =
-      ap {B = Answer} (λ (o : Op). answer_of old.lists (D.failed old.log_part) t.code (D.stable p) old.words o) same_op
+      (answer_of old.layout old.lists (D.failed old.log_part) t.code (D.stable p) old.words (next who_filled)) answer =
+      ap {B = Answer} (λ (o : Op). answer_of old.layout old.lists (D.failed old.log_part) t.code (D.stable p) old.words o) same_op
       ∙ sym t.answered in
-      let words : List ℕ = words_left old.words (next who_filled) in
-      subst (λ (ws : List ℕ). RunsOver D E c ws new.lists p d new.actors log_then)
-      (ap (words_left old.words) same_op ∙ sym t.words)
-      (subst (λ (ls : ℕ → List Listed). RunsOver D E c words ls p d new.actors log_then) lists
-      (subst (λ (rs : List Actor). RunsOver D E c words (lists_left old.lists mine (next who_filled)) p d rs
-      log_then) (actors_then _ said) after))
+      let words : List ℕ = words_left old.layout old.words (next who_filled) in
+      subst (λ (l : Layout). RunsOver D E c l new.words new.lists p d new.actors log_then) (sym t.layout)
+      (subst (λ (ws : List ℕ). RunsOver D E c old.layout ws new.lists p d new.actors log_then)
+      (ap (words_left old.layout old.words) same_op ∙ sym t.words)
+      (subst (λ (ls : ℕ → List Listed). RunsOver D E c old.layout words ls p d new.actors log_then) lists
+      (subst (λ (rs : List Actor). RunsOver D E c old.layout words (lists_left old.lists mine (next who_filled)) p d rs
+      log_then) (actors_then _ said) after)))
 
 pub turn_keeps : (D : LogSide) → LogLaws D → (E : DataSide) → DataLaws E → (c : Setup) (old new : Core D E)
     (seat : ℕ) (answer : Answer) (step : Step) → IsRunning D E c old → Turn D E old seat answer step new

@@ -19,6 +19,7 @@ use Rattle.model_core.specs.declared.steps.FlusherStep.{FlusherStep}
 use Rattle.model_core.specs.declared.steps.ReaderStep.{ReaderStep}
 use Rattle.model_core.specs.declared.steps.UserStep.{UserStep}
 use Rattle.model_core.specs.declared.steps.WriterStep.{WriterStep}
+use Rattle.model_core.specs.declared.words.Layout.{Layout}
 use Rattle.model_core.specs.declared.words.Word.{Word}
 use Rattle.model_logcore.proofs.WriterSteps.{own}
 use Rattle.model_logcore.specs.{CheckpointerAt, CheckpointerFits, CleanerTold, FlusherAt, FlusherFits, LogGhost, WriterAt, WriterFits}
@@ -44,8 +45,8 @@ LeavesFailed (op.Swap word.Failed x y) = ⊥
 LeavesFailed _ = Unit {0}
 
 -- what an Op leaves of FAILED: as it was, or what it stores there
-abbrev FailedLeft : List ℕ → Op → Type 0
-FailedLeft ws o = (slice_index (words_left ws o) 6 ≡ slice_index ws 6) ⊎ ((x : ℕ) × (o ≡ op.Store word.Failed x) × (slice_index (words_left ws o) 6 ≡ x))
+abbrev FailedLeft : Layout → List ℕ → Op → Type 0
+FailedLeft layout ws o = (slice_index (words_left layout ws o) 6 ≡ slice_index ws 6) ⊎ ((x : ℕ) × (o ≡ op.Store word.Failed x) × (slice_index (words_left layout ws o) 6 ≡ x))
 
 else_set : (ws : List ℕ) (i x : ℕ) → 6 ≢ i → slice_index (slice_set ws i x) 6 ≡ slice_index ws 6
 else_set ws i x ne = get_or-set_other ws i 6 x 0 ne
@@ -54,46 +55,46 @@ else_by : (ws : List ℕ) (i x : ℕ) (b : Bool) → 6 ≢ i → slice_index (co
 else_by ws i x true ne = else_set ws i x ne
 else_by ws i x false ne = refl
 
-other_word : (w : Word) → (w ≡ word.Failed) ⊎ (6 ≢ index w)
-other_word word.Failed = inl refl
-other_word word.Sn = inr (λ e. omega arith)
-other_word word.Write = inr (λ e. omega arith)
-other_word word.Wtail = inr (λ e. omega arith)
-other_word word.Flushed = inr (λ e. omega arith)
-other_word word.Ckpt = inr (λ e. omega arith)
-other_word word.Ctail = inr (λ e. omega arith)
-other_word word.Device = inr (λ e. omega arith)
-other_word (word.List i) = inr (λ e. omega arith)
-other_word (word.Wlink i) = inr (λ e. omega arith)
-other_word (word.Clink i) = inr (λ e. omega arith)
-other_word (word.Cell i) = inr (λ e. omega arith)
-other_word (word.First i) = inr (λ e. omega arith)
-other_word (word.Place i) = inr (λ e. omega arith)
-other_word (word.Latch p) = inr (λ e. omega arith)
-other_word (word.Newest p) = inr (λ e. omega arith)
-other_word (word.Oldest p) = inr (λ e. omega arith)
-other_word (word.Frame p i) = inr (λ e. omega arith)
+other_word : (layout : Layout) (w : Word) → (w ≡ word.Failed) ⊎ (6 ≢ index layout w)
+other_word layout word.Failed = inl refl
+other_word layout word.Sn = inr (λ e. omega arith)
+other_word layout word.Write = inr (λ e. omega arith)
+other_word layout word.Wtail = inr (λ e. omega arith)
+other_word layout word.Flushed = inr (λ e. omega arith)
+other_word layout word.Ckpt = inr (λ e. omega arith)
+other_word layout word.Ctail = inr (λ e. omega arith)
+other_word layout word.Device = inr (λ e. omega arith)
+other_word layout (word.List i) = inr (λ e. omega arith)
+other_word layout (word.Wlink i) = inr (λ e. omega arith)
+other_word layout (word.Clink i) = inr (λ e. omega arith)
+other_word layout (word.Cell i) = inr (λ e. omega arith)
+other_word layout (word.First i) = inr (λ e. omega arith)
+other_word layout (word.Place i) = inr (λ e. omega arith)
+other_word layout (word.Latch p) = inr (λ e. omega arith)
+other_word layout (word.Newest p) = inr (λ e. omega arith)
+other_word layout (word.Oldest p) = inr (λ e. omega arith)
+other_word layout (word.Frame p i) = inr (λ e. omega arith)
 
-failed_left : (ws : List ℕ) → 6 < length ws → (o : Op) → LeavesFailed o → FailedLeft ws o
-failed_left ws long (op.Load w) leaves = inl refl
-failed_left ws long (op.Store w x) leaves = ⊎_elim
-    (λ is. inr (x, ap (λ (z : Word). op.Store z x) is, ap (λ (z : Word). slice_index (slice_set ws (index z) x) 6) is ∙ get_or-set_same ws 6 x 0 long))
-    (λ ne. inl (else_set ws (index w) x ne)) (other_word w)
-failed_left ws long (op.Add w k) leaves = ⊎_elim (λ is. absurd (subst (λ (z : Word). LeavesFailed (op.Add z k)) is leaves)) (λ ne. inl (else_set ws (index w) (slice_index ws (index w) + k) ne)) (other_word w)
-failed_left ws long (op.Swap w x y) leaves = ⊎_elim (λ is. absurd (subst (λ (z : Word). LeavesFailed (op.Swap z x y)) is leaves)) (λ ne. inl (else_by ws (index w) y (slice_index ws (index w) == x) ne)) (other_word w)
-failed_left ws long op.TakeDevice leaves = inl (else_by ws 7 1 (slice_index ws 7 == 0) (λ e. omega arith))
-failed_left ws long op.GiveDevice leaves = inl (else_set ws 7 0 (λ e. omega arith))
-failed_left ws long (op.TakeAdd p x) leaves = inl (else_by ws (8 + p % 4) 1 (slice_index ws (8 + p % 4) == 0) (λ e. omega arith))
-failed_left ws long (op.TakeRemove p) leaves = inl (else_by ws (8 + p % 4) 1 (slice_index ws (8 + p % 4) == 0) (λ e. omega arith))
-failed_left ws long (op.TakeOldest i) leaves = inl (else_by ws (8 + i) 1 (slice_index ws (8 + i) == 0) (λ e. omega arith))
-failed_left ws long (op.GiveList i) leaves = inl (else_set ws (8 + i) 0 (λ e. omega arith))
-failed_left ws long (op.WriteTo t) leaves = inl refl
-failed_left ws long (op.ReadBlock b) leaves = inl refl
-failed_left ws long op.Sync leaves = inl refl
-failed_left ws long (op.Checkpoint x) leaves = inl refl
-failed_left ws long op.WriteBatch leaves = inl refl
-failed_left ws long (op.Append x) leaves = inl refl
-failed_left ws long op.Rest leaves = inl refl
+failed_left : (layout : Layout) (ws : List ℕ) → 6 < length ws → (o : Op) → LeavesFailed o → FailedLeft layout ws o
+failed_left layout ws long (op.Load w) leaves = inl refl
+failed_left layout ws long (op.Store w x) leaves = ⊎_elim
+    (λ is. inr (x, ap (λ (z : Word). op.Store z x) is, ap (λ (z : Word). slice_index (slice_set ws (index layout z) x) 6) is ∙ get_or-set_same ws 6 x 0 long))
+    (λ ne. inl (else_set ws (index layout w) x ne)) (other_word layout w)
+failed_left layout ws long (op.Add w k) leaves = ⊎_elim (λ is. absurd (subst (λ (z : Word). LeavesFailed (op.Add z k)) is leaves)) (λ ne. inl (else_set ws (index layout w) (slice_index ws (index layout w) + k) ne)) (other_word layout w)
+failed_left layout ws long (op.Swap w x y) leaves = ⊎_elim (λ is. absurd (subst (λ (z : Word). LeavesFailed (op.Swap z x y)) is leaves)) (λ ne. inl (else_by ws (index layout w) y (slice_index ws (index layout w) == x) ne)) (other_word layout w)
+failed_left layout ws long op.TakeDevice leaves = inl (else_by ws 7 1 (slice_index ws 7 == 0) (λ e. omega arith))
+failed_left layout ws long op.GiveDevice leaves = inl (else_set ws 7 0 (λ e. omega arith))
+failed_left layout ws long (op.TakeAdd p x) leaves = inl (else_by ws (8 + p % 4) 1 (slice_index ws (8 + p % 4) == 0) (λ e. omega arith))
+failed_left layout ws long (op.TakeRemove p) leaves = inl (else_by ws (8 + p % 4) 1 (slice_index ws (8 + p % 4) == 0) (λ e. omega arith))
+failed_left layout ws long (op.TakeOldest i) leaves = inl (else_by ws (8 + i) 1 (slice_index ws (8 + i) == 0) (λ e. omega arith))
+failed_left layout ws long (op.GiveList i) leaves = inl (else_set ws (8 + i) 0 (λ e. omega arith))
+failed_left layout ws long (op.WriteTo t) leaves = inl refl
+failed_left layout ws long (op.ReadBlock b) leaves = inl refl
+failed_left layout ws long op.Sync leaves = inl refl
+failed_left layout ws long (op.Checkpoint x) leaves = inl refl
+failed_left layout ws long op.WriteBatch leaves = inl refl
+failed_left layout ws long (op.Append x) leaves = inl refl
+failed_left layout ws long op.Rest leaves = inl refl
 
 -- no program adds to FAILED, nor swaps it
 user_leaves : (u : UserState) (f : UserStep) → LeavesFailed (user_op u f)
@@ -190,7 +191,7 @@ turn_keeps_failed D E c old new seat answer step before t failed =
     let a : Actor = t.who in
     let m : SharedWords = before.shared in
     let long : 6 < length old.words = (let n : length old.words ≡ length (flat m) = ap length before.flat_is in omega arith) in
-    let words : slice_index new.words 6 ≡ slice_index (words_left old.words (next a)) 6 = ap (λ (ws : List ℕ). slice_index ws 6) t.words in
+    let words : slice_index new.words 6 ≡ slice_index (words_left old.layout old.words (next a)) 6 = ap (λ (ws : List ℕ). slice_index ws 6) t.words in
     ⊎_elim (λ same. omega arith)
     (λ stored. let s = stored.2 in let some = stores D c m before.log_ghost old.log_part old.actors seat before.both.logged stored.0 a t.who_is stored.1 in omega arith)
-    (failed_left old.words long (next a) (checking_leaves (is_checking a) (own_op a) (own_leaves a)))
+    (failed_left old.layout old.words long (next a) (checking_leaves (is_checking a) (own_op a) (own_leaves a)))

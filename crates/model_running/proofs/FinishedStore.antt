@@ -13,10 +13,7 @@ use Rattle.model_running.specs.Script.{IsOfScript}
 use Rattle.model_report.specs.declared.entry.Marks.{Marks}
 use Rattle.model_log.specs.{start_after}
 use Rattle.model_logcore.specs.{UserFits}
-use Rattle.model_running.specs.PlainStore.{plain_store}
 use Rattle.model_running.specs.RunningStore.{IsRunning}
-use Rattle.model_running.specs.Schedule.{HaveEnded, IsSpent}
-use Rattle.model_running.specs.Seated.{AreSeated}
 use Rattle.model_script.specs.declared.script.ScriptLine.{ScriptLine}
 use Rattle.model_theorem.specs.{Opened}
 use Rattle.model_core.specs.Actors as actor

@@ -3,7 +3,6 @@
 use Rattle.std.proofs.Common.{Bool, List, ap, arith, cond, eqb, false, inl, inr, refl, subst, sym, true, ℕ, ⊎_elim}
 use Rattle.std.proofs.Common.{◌%◌, ◌+◌, ◌<◌, ◌==◌, ◌∙◌, ◌≡◌, ◌≤◌}
 use Rattle.std.proofs.lemmas.Bool.{eqb-false}
-use mathlib.Core.Option.{some}
 use Rattle.model_core.specs.Answers.{oldest_in}
 use Rattle.model_base.specs.declared.limits.TheConstants.{BLOCK_SIZE}
 use Rattle.model_core.proofs.Lsns.{floor_grows, lsn_le}

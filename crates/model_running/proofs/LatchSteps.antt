@@ -6,7 +6,6 @@ use native.Mathlib.Decide.{ℕ_discrete}
 use Rattle.model_core.proofs.Lists.{at_last, at_longer}
 unfoldable use Rattle.model_core.specs.{lanes}
 use Rattle.model_core.specs.{advance_next, after_link, BatchPage, can_close, can_link, cells_of, change_at, changes, checked_of, cleaner_program, cleaner_took, CleanerState, current_page, end_round, first_of_batch, frame_count, frees, group_bytes, group_end, has_room, has_taken, is_whole, next_count, next_in_round, old_of, page_loaded, stays_put, tail_of, to_next_page, user_program, user_took, UserState, with_close_room, with_link_room, without_close_room, without_link_room, word_step}
-use Rattle.model_core.specs.declared.limits.TheConstants.{BATCH_PAGES}
 use Rattle.model_core.specs.declared.ops.Answer.{Answer}
 use Rattle.model_core.specs.declared.steps.CleanerStep.{CleanerStep}
 use Rattle.model_core.specs.declared.steps.UserStep.{UserStep}
@@ -139,7 +138,7 @@ module _ (v : CleanerState) (p : ℕ) where
   goes_on : (x : CleanerState) → IsInBatch x.batch p → CleanerHas (next_in_round x)
   goes_on x held =
       let page : ℕ = cond (eqb (x.page + 1) x.pages) 0 (x.page + 1) in
-      cleaner_either (cond (eqb x.left 1) true (eqb (length x.batch) BATCH_PAGES)) (end_round (record x { page = page; left = x.left - 1; kept = [] })) (record x { page = page; left = x.left - 1; kept = []; step = cleaner_step.LoadOldest })
+      cleaner_either (cond (eqb x.left 1) true (eqb (length x.batch) x.slots)) (end_round (record x { page = page; left = x.left - 1; kept = [] })) (record x { page = page; left = x.left - 1; kept = []; step = cleaner_step.LoadOldest })
       (ends (record x { page = page; left = x.left - 1; kept = [] }) held) (inr held)
 
   -- its page enters the batch

@@ -174,7 +174,7 @@ line_changes c shape script S user j = elim (dec_le (length (c.script user)) j) 
 ]
 
 module _ (c : Setup) (script : List ScriptLine) (shape : Shape) (limits : IsWithinLimits shape) (pages : c.pages ≡ shape.pages)
-    (size : c.page_size ≡ shape.page_size) (S : IsOfScript c script shape)
+    (size : c.page_size ≡ shape.page_size) (slots : c.slots ≡ shape.slots) (S : IsOfScript c script shape)
     (fits : (user k : ℕ) (one : ScriptLine) → slice_get (lines_of_user user script) k ≡ Some one → LineFits shape one) where
   below_by : (b : Bool) (group : List Rec) → PagesBelow shape.page_size shape.pages (cond b [] (changes_of shape group))
   below_by true group = record { there = λ k l. absurd (omega arith); ascending = λ i k lt l. absurd (omega arith); within = λ k i l. absurd (omega arith) }
@@ -223,6 +223,7 @@ module _ (c : Setup) (script : List ScriptLine) (shape : Shape) (limits : IsWith
     some_page = some;
     there = λ user j k l. let z = (below user j).there k l in omega arith;
     page_size = subst IsPageSize (sym size) limits.page_size;
+    slots = (let some = limits.slots in omega arith);
     apart = λ user j i k lt l e. let z = (below user j).ascending i k lt l in absurd (omega arith);
     within = λ user j k i l. let z = (below user j).within k i l in omega arith;
     ascending = ascend;

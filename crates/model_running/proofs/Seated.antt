@@ -6,7 +6,6 @@ use Rattle.model_core.proofs.Lists.{at_longer}
 use Rattle.model_core.specs.{Actor, CleanerState, ReaderState, UserState}
 use Rattle.model_core.specs.Setup.{Setup}
 use Rattle.model_running.specs.Script.{HasSeats, IsOfScript}
-use Rattle.model_running.specs.Schedule.{HaveEnded}
 use Rattle.model_running.specs.Seated.{AreSeated}
 use Rattle.model_running.specs.Seating.{ArePageActors}
 use Rattle.model_script.specs.declared.script.ScriptLine.{ScriptLine}

@@ -13,8 +13,6 @@ use Rattle.model_core.specs.Setup.{Setup}
 use Rattle.model_core.specs.Turn.{Turn}
 use Rattle.model_core.specs.declared.ops.Answer.{Answer}
 use Rattle.model_core.specs.declared.ops.Step.{Step}
-use Rattle.model_running.specs.PlainStore.{plain_store}
-use Rattle.model_running.specs.Schedule.{TakesTurns}
 use Rattle.model_running.specs.Seated.{AreSeated}
 use Rattle.model_running.specs.Seating.{ArePageActors, PageActors}
 use Rattle.model_core.specs.Actors as actor

@@ -3,7 +3,7 @@ use Rattle.std.proofs.Common.{List, None, Option, Some, ap, arith, refl, subst, 
 use Rattle.std.specs.Prelude.{slice_index}
 use lib.ListN.{get_elem?}
 use mathlib.Core.Option.{some}
-use Rattle.model_core.specs.{checkpointer_holds, CheckpointerState, CleanerState, Core, current_page, first_of_batch, flat, flusher_holds, SharedWords, UserState, writer_holds}
+use Rattle.model_core.specs.{checkpointer_holds, CheckpointerState, CleanerState, Core, current_page, first_of_batch, flat, flusher_holds, layout_of, SharedWords, UserState, writer_holds}
 use Rattle.model_core.specs.{reader_holds}
 use Rattle.model_core.specs.Actors as model
 use Rattle.model_core.specs.DataSide.{DataSide}
@@ -88,7 +88,7 @@ module _ (D : LogSide) (E : DataSide) (c : Setup) (s : Core D E) (running : IsRu
   with_list : (n i k : ℕ) → suc i ≡ k → i < 4 → HasList E c m g.log h s.lists s.data_part n i → Holds n k
   with_list n i k e below held = subst (Holds n) e (record {
     below = omega arith;
-    word_is = ap (λ (ws : List ℕ). slice_index ws (7 + suc i)) running.flat_is ∙ ap (slice_index (flat m)) (let q : 7 + suc i ≡ 8 + i = omega arith in q) ∙ flat_read c.pages m running.both.logged.sized (word.List i) below ∙ held.0;
+    word_is = ap (λ (ws : List ℕ). slice_index ws (7 + suc i)) running.flat_is ∙ ap (slice_index (flat m)) (let q : 7 + suc i ≡ 8 + i = omega arith in q) ∙ flat_read (layout_of c) m running.both.logged.sized (word.List i) below ∙ held.0;
     alone = held.1;
   })
 

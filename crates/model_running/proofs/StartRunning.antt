@@ -5,7 +5,7 @@ use Rattle.std.proofs.Common.{List, [], ap, arith, false, get_or, length, refl, 
 use lib.ListN.{get_elem?}
 use mathlib.Core.Option.{some, some-ne-none}
 use Rattle.model_base.specs.declared.limits.TheConstants.{LSN_LIMIT}
-use Rattle.model_core.specs.{Actor, change_at, CheckpointerState, CleanerState, CloserState, flat, Line, line_at, LoadedMarks, lsn, PageWords, ReaderState, SharedWords}
+use Rattle.model_core.specs.{Actor, change_at, CheckpointerState, CleanerState, CloserState, flat, layout_of, Line, line_at, LoadedMarks, lsn, PageWords, ReaderState, SharedWords}
 use Rattle.model_core.specs.DataSide.{DataSide}
 use Rattle.model_core.specs.LogSide.{LogSide}
 use Rattle.model_core.specs.Setup.{Setup}
@@ -42,6 +42,7 @@ module _ (D : LogSide) (E : DataSide) (c : Setup) (m : SharedWords) (p : D.Part)
     alone = alone;
     pages = refl;
     page_size = refl;
+    slots = refl;
     page = S.some_page;
     flushed = omega arith;
     sound = λ _. (S.sound, refl);
@@ -140,5 +141,5 @@ module _ (D : LogSide) (E : DataSide) (c : Setup) (m : SharedWords) (p : D.Part)
     }) (λ seat a at. page_fits seat a at (S.each seat a at));
   }
 
-  pub store_starts : (ws : List ℕ) → ws ≡ flat m → lsn (c.base + sum_over_actors left_to_reserve actors) < LSN_LIMIT → RunningStore D E c ws (λ _. []) p d actors
-  store_starts ws is room = record { shared = m; log_ghost = start D c m p seat_of writer S.words S.log_part; page_ghost = start_pages c; flat_is = is; both = both_start room }
+  pub store_starts : (ws : List ℕ) → ws ≡ flat m → lsn (c.base + sum_over_actors left_to_reserve actors) < LSN_LIMIT → RunningStore D E c (layout_of c) ws (λ _. []) p d actors
+  store_starts ws is room = record { shared = m; log_ghost = start D c m p seat_of writer S.words S.log_part; page_ghost = start_pages c; layout_is = refl; flat_is = is; both = both_start room }

@@ -2,17 +2,16 @@
 use Rattle.model_running.proofs.ReadStays.{IsFilled}
 use Rattle.model_core.specs.declared.limits.TheConstants.{READERS}
 use Rattle.model_running.specs.ReadHalf.{NumberAt, ReadsInRun}
-use Rattle.std.proofs.Common.{Bool, List, [], ap, arith, cond, eqb, false, get_or, length, refl, set, subst, sym, true, ℕ, ◌<◌, ◌∙◌, ◌∷◌, ◌≡◌, ◌≤◌}
+use Rattle.std.proofs.Common.{Bool, List, [], ap, arith, cond, eqb, false, get_or, length, refl, set, subst, sym, true, ℕ, ◌*◌, ◌<◌, ◌∙◌, ◌∷◌, ◌≡◌}
 use Rattle.std.specs.Prelude.{slice_index}
 use lib.ListN.{get_elem?}
 use mathlib.Core.Option.{some}
-use Rattle.model_core.specs.{Actor, answer_of, BatchPage, checkpointer_op, CheckpointerState, cleaner_op, CleanerState, closer_op, CloserState, DataServed, Entry, first_of_batch, flat, flusher_op, FlusherState, IsWord, lent, Listed, lists_left, log_left, LogServed, mode, next, no_page, OpWords, OwnServed, shared_answer, shared_left, SharedWords, took, user_op, UserState, words_left, writer_op, WriterState, Advance, advance_op}
+use Rattle.model_core.specs.{Actor, answer_of, BatchPage, checkpointer_op, CheckpointerState, cleaner_op, CleanerState, closer_op, CloserState, DataServed, Entry, first_of_batch, flat, frame_words, flusher_op, FlusherState, IsWord, layout_of, lent, Listed, lists_left, log_left, LogServed, mode, next, no_page, OpWords, OwnServed, shared_answer, shared_left, SharedWords, took, user_op, UserState, words_left, writer_op, WriterState, Advance, advance_op}
 use Rattle.model_core.specs.{reader_op, ReaderState}
-use Rattle.model_core.proofs.PageSizes.{has_room}
+use Rattle.model_core.proofs.PageSizes.{frame_fills}
 use Rattle.model_core.specs.DataSide.{DataSide}
 use Rattle.model_core.specs.LogSide.{LogSide}
 use Rattle.model_core.specs.Setup.{Setup}
-use Rattle.model_core.specs.declared.limits.TheConstants.{FRAME_CELLS}
 use Rattle.model_core.specs.declared.ops.Answer.{Answer}
 use Rattle.model_core.specs.declared.ops.Op.{Op}
 use Rattle.model_core.specs.declared.steps.CleanerStep.{CleanerStep}
@@ -34,6 +33,7 @@ use Rattle.model_core.specs.declared.steps.CloserStep.TheVariants as closer_step
 use Rattle.model_core.specs.declared.steps.CleanerStep.TheVariants as cleaner_step
 use Rattle.model_core.specs.declared.steps.CheckpointerStep.TheVariants as checkpointer_step
 use Rattle.model_core.specs.declared.steps.AdvanceStep.TheVariants as advance_step
+use Rattle.model_core.specs.declared.words.Layout.{Layout}
 use Rattle.model_core.specs.declared.words.LinkBuffer.TheVariants as link_buffer
 use Rattle.model_core.specs.declared.words.LinkBuffer.{LinkBuffer}
 use Rattle.model_core.specs.declared.steps.AdvanceStep.{AdvanceStep}
@@ -45,23 +45,23 @@ use Rattle.model_core.specs.declared.steps.FlusherStep.TheVariants as flusher_st
 use Rattle.model_core.specs.declared.steps.ReaderStep.TheVariants as reader_step
 
 module _ (D : LogSide) (E : DataSide) (c : Setup) (m : SharedWords) (g : LogGhost) (h : PageGhost) (ls : ℕ → List Listed) (p : D.Part) (d : E.Part) (actors : List Actor) (seat : ℕ) (both : BothHalves D E c m g h ls p d actors) where
-  page_room : c.page_size ≤ FRAME_CELLS
-  page_room = has_room c.page_size both.script.page_size
+  page_room : 8 * frame_words c.page_size ≡ c.page_size
+  page_room = frame_fills c.page_size both.script.page_size
 
-  advance_words : (b : LinkBuffer) (v : Advance) (s : AdvanceStep) → OpWords c.pages (advance_op b v s)
+  advance_words : (b : LinkBuffer) (v : Advance) (s : AdvanceStep) → OpWords (layout_of c) (advance_op b v s)
   advance_words link_buffer.Written v advance_step.LoadLink = omega arith
   advance_words link_buffer.Written v advance_step.ClearLink = omega arith
   advance_words link_buffer.Closed v advance_step.LoadLink = omega arith
   advance_words link_buffer.Closed v advance_step.ClearLink = omega arith
   advance_words _ v _ = tt
 
-  user_words : (u : UserState) → UserPageFits E c m g.log h ls d seat u → (f : UserStep) → UserPagesAt E c m g.log h ls d seat u f → OpWords c.pages (user_op u f)
+  user_words : (u : UserState) → UserPageFits E c m g.log h ls d seat u → (f : UserStep) → UserPagesAt E c m g.log h ls d seat u f → OpWords (layout_of c) (user_op u f)
   user_words u F user_step.AddCell o = omega arith
   user_words u F user_step.StoreFirst o = omega arith
   user_words u F user_step.StoreLink o = omega arith
   user_words u F user_step.AwaitMark o = by (eqb (mode u) 1)
     where
-      by : (b : Bool) → IsWord c.pages (cond b word.Flushed word.Write)
+      by : (b : Bool) → IsWord (layout_of c) (cond b word.Flushed word.Write)
       by true = tt
       by false = tt
   user_words u F user_step.TakeLatch o = F.there u.k u.page o.1
@@ -87,7 +87,7 @@ module _ (D : LogSide) (E : DataSide) (c : Setup) (m : SharedWords) (g : LogGhos
   user_words u F user_step.Done o = tt
   user_words u F user_step.Failed o = tt
 
-  writer_words : (s : WriterState) (f : WriterStep) → OpWords c.pages (writer_op s f)
+  writer_words : (s : WriterState) (f : WriterStep) → OpWords (layout_of c) (writer_op s f)
   writer_words s (writer_step.Advance v) = advance_words link_buffer.Written s.advance v
   writer_words s writer_step.LoadFirst = omega arith
   writer_words s writer_step.ClearFirst = omega arith
@@ -95,16 +95,16 @@ module _ (D : LogSide) (E : DataSide) (c : Setup) (m : SharedWords) (g : LogGhos
   writer_words s writer_step.ClearCell = omega arith
   writer_words s _ = tt
 
-  flusher_words : (f : FlusherState) (w : FlusherStep) → OpWords c.pages (flusher_op f w)
+  flusher_words : (f : FlusherState) (w : FlusherStep) → OpWords (layout_of c) (flusher_op f w)
   flusher_words f flusher_step.LoadWrite = tt
   flusher_words f _ = tt
 
-  reader_words : (f : ReaderState) → f.number < READERS → (w : ReaderStep) → OpWords c.pages (reader_op f w)
+  reader_words : (f : ReaderState) → f.number < READERS → (w : ReaderStep) → OpWords (layout_of c) (reader_op f w)
   reader_words f few reader_step.LoadFlushed = tt
   reader_words f few reader_step.StorePlace = few
   reader_words f few _ = tt
 
-  closer_words : (t : CloserState) (f : CloserStep) → OpWords c.pages (closer_op t f)
+  closer_words : (t : CloserState) (f : CloserStep) → OpWords (layout_of c) (closer_op t f)
   closer_words t (closer_step.Advance v) = advance_words link_buffer.Closed t.advance v
   closer_words t closer_step.Failed = tt
 
@@ -115,7 +115,7 @@ module _ (D : LogSide) (E : DataSide) (c : Setup) (m : SharedWords) (g : LogGhos
       front [] z = absurd (omega arith)
       front (x ∷ xs) z = (x, refl, refl)
 
-  cleaner_words : (x : CleanerState) → x.page < c.pages → (f : CleanerStep) → CleanerAt E c m g.log h ls d seat x f → OpWords c.pages (cleaner_op x f)
+  cleaner_words : (x : CleanerState) → x.page < c.pages → (f : CleanerStep) → CleanerAt E c m g.log h ls d seat x f → OpWords (layout_of c) (cleaner_op x f)
   cleaner_words x l cleaner_step.LoadFlushed o = tt
   cleaner_words x l cleaner_step.LoadOldest o = l
   cleaner_words x l cleaner_step.TakeLatch o = l
@@ -130,7 +130,7 @@ module _ (D : LogSide) (E : DataSide) (c : Setup) (m : SharedWords) (g : LogGhos
   cleaner_words x l cleaner_step.StoreFailed o = tt
   cleaner_words x l cleaner_step.Failed o = tt
 
-  checkpointer_words : (t : CheckpointerState) (f : CheckpointerStep) → CheckpointerPagesAt E c m g.log h ls d seat t f → NumberAt t f → t.last ≡ c.last_reader → OpWords c.pages (checkpointer_op t f)
+  checkpointer_words : (t : CheckpointerState) (f : CheckpointerStep) → CheckpointerPagesAt E c m g.log h ls d seat t f → NumberAt t f → t.last ≡ c.last_reader → OpWords (layout_of c) (checkpointer_op t f)
   checkpointer_words t checkpointer_step.ReadList o r l = o.2
   checkpointer_words t checkpointer_step.GiveList o r l = o.2
   checkpointer_words t checkpointer_step.LoadCtail o r l = tt
@@ -145,12 +145,12 @@ module _ (D : LogSide) (E : DataSide) (c : Setup) (m : SharedWords) (g : LogGhos
   checkpointer_words t checkpointer_step.GiveFailed o r l = tt
   checkpointer_words t checkpointer_step.Failed o r l = tt
 
-  asked_words : (b : Bool) (o : Op) → OpWords c.pages o → OpWords c.pages (cond b (op.Load word.Failed) o)
+  asked_words : (b : Bool) (o : Op) → OpWords (layout_of c) o → OpWords (layout_of c) (cond b (op.Load word.Failed) o)
   asked_words true o z = tt
   asked_words false o z = z
 
   -- each Op names words that there are
-  pub next_words : (a : Actor) → get_elem? actors seat ≡ some a → OpWords c.pages (next a)
+  pub next_words : (a : Actor) → get_elem? actors seat ≡ some a → OpWords (layout_of c) (next a)
   next_words (actor.User u) at = let F : UserPageFits E c m g.log h ls d seat u = both.paged.each seat (actor.User u) at in asked_words u.checks (user_op u u.step) (user_words u F u.step F.step)
   next_words (actor.Writer s) at = asked_words s.checks (writer_op s s.step) (writer_words s s.step)
   next_words (actor.Flusher f) at = asked_words f.checks (flusher_op f f.step) (flusher_words f f.step)
@@ -171,17 +171,17 @@ module _ (D : LogSide) (E : DataSide) (c : Setup) (m : SharedWords) (g : LogGhos
       asked_words t.checks (checkpointer_op t t.step) (checkpointer_words t t.step F.step N.2 N.1)
 
 -- a running store, over a log
-pub record RunsOver (D : LogSide) (E : DataSide) (c : Setup) (ws : List ℕ) (ls : ℕ → List Listed)
+pub record RunsOver (D : LogSide) (E : DataSide) (c : Setup) (layout : Layout) (ws : List ℕ) (ls : ℕ → List Listed)
     (p : D.Part) (d : E.Part) (actors : List Actor) (log : List Entry) : Type 0 where
-  pub store : RunningStore D E c ws ls p d actors
+  pub store : RunningStore D E c layout ws ls p d actors
   pub log_is : store.log_ghost.log ≡ log
 
-module _ (D : LogSide) (L : LogLaws D) (E : DataSide) (EL : DataLaws E) (c : Setup) (ws : List ℕ) (ls : ℕ → List Listed) (p : D.Part) (d : E.Part) (actors : List Actor) (seat : ℕ) (a : Actor) (before : RunningStore D E c ws ls p d actors)
+module _ (D : LogSide) (L : LogLaws D) (E : DataSide) (EL : DataLaws E) (c : Setup) (layout : Layout) (ws : List ℕ) (ls : ℕ → List Listed) (p : D.Part) (d : E.Part) (actors : List Actor) (seat : ℕ) (a : Actor) (before : RunningStore D E c layout ws ls p d actors)
     (at : get_elem? actors seat ≡ some a) (full : IsFilled a) (code : ℕ) (q : D.Part) (e : E.Part) (served : LogServed D p (lent a) (next a) code q) (stored : DataServed E d (lent a) (next a) code e) (own : OwnServed (next a) code) where
   -- THE step lemma over the list of words
-  pub keeps_turn : RunsOver D E c (words_left ws (next a))
+  pub keeps_turn : RunsOver D E c layout (words_left layout ws (next a))
       (lists_left ls (λ i. slice_index before.shared.lists i) (next a)) q e
-      (set actors seat (took a (answer_of ls (D.failed p) code (D.stable q) ws (next a))))
+      (set actors seat (took a (answer_of layout ls (D.failed p) code (D.stable q) ws (next a))))
       (log_left before.log_ghost.log before.shared.sn a)
   keeps_turn =
       let m = before.shared in
@@ -189,19 +189,22 @@ module _ (D : LogSide) (L : LogLaws D) (E : DataSide) (EL : DataLaws E) (c : Set
       let r = keeps_both D L E EL c m before.log_ghost before.page_ghost ls p d actors seat k code q e a at full
       served stored own in
       let w = next_words D E c m before.log_ghost before.page_ghost ls p d actors seat k a at in
-      let left : words_left ws (next a) ≡ flat (shared_left m (next a)) =
-      ap (λ (z : List ℕ). words_left z (next a)) before.flat_is ∙ flat_left c.pages m k.logged.sized (next a) w in
-      let said : ◌≡◌ {A = Answer} (answer_of ls (D.failed p) code (D.stable q) ws (next a))
+      let left : words_left layout ws (next a) ≡ flat (shared_left m (next a)) =
+      ap (λ (z : List ℕ). words_left layout z (next a)) before.flat_is
+      ∙ ap (λ (l : Layout). words_left l (flat m) (next a)) before.layout_is ∙ flat_left (layout_of c) m k.logged.sized (next a) w in
+      let said : ◌≡◌ {A = Answer} (answer_of layout ls (D.failed p) code (D.stable q) ws (next a))
       (shared_answer ls (D.failed p) code (D.stable q) m (next a)) =
-      ap (λ (z : List ℕ). answer_of ls (D.failed p) code (D.stable q) z (next a)) before.flat_is
-      ∙ flat_answer c.pages m k.logged.sized ls (D.failed p) code (D.stable q) (next a) w in
+      ap (λ (z : List ℕ). answer_of layout ls (D.failed p) code (D.stable q) z (next a)) before.flat_is
+      ∙ ap (λ (l : Layout). answer_of l ls (D.failed p) code (D.stable q) (flat m) (next a)) before.layout_is
+      ∙ flat_answer (layout_of c) m k.logged.sized ls (D.failed p) code (D.stable q) (next a) w in
       let lists : ℕ → List Listed = lists_left ls (λ i. slice_index m.lists i) (next a) in
-      subst (λ (z : Answer). RunsOver D E c (words_left ws (next a)) lists q e (set actors seat (took a z))
+      subst (λ (z : Answer). RunsOver D E c layout (words_left layout ws (next a)) lists q e (set actors seat (took a z))
       (log_left before.log_ghost.log m.sn a)) (sym said) (record {
         store = record {
           shared = shared_left m (next a);
           log_ghost = r.log_ghost;
           page_ghost = r.page_ghost;
+          layout_is = before.layout_is;
           flat_is = left;
           both = r.both;
         };

@@ -4,7 +4,7 @@ use lib.ListN.{get_elem?}
 use mathlib.Core.Option.{some}
 use Rattle.model_base.specs.declared.limits.TheConstants.{LSN_LIMIT}
 use Rattle.model_core.specs.DataSide.{DataSide}
-use Rattle.model_core.specs.{Actor, Core, Entry, HasLost, index, Tiles, UserState}
+use Rattle.model_core.specs.{Actor, Core, Entry, HasLost, sn_at, Tiles, UserState}
 use Rattle.model_core.specs.LogSide.{LogSide}
 use Rattle.model_core.specs.Setup.{Setup}
 use Rattle.model_running.specs.History.{marks_in}
@@ -16,7 +16,6 @@ use Rattle.model_logcore.specs.{Counted}
 use Rattle.model_script.specs.declared.script.ScriptLine.{ScriptLine}
 use Rattle.model_theorem.specs.{IsRun, Opened, Ran}
 use Rattle.model_core.specs.Actors as actor
-use Rattle.model_core.specs.declared.words.Word.TheVariants as word
 
 -- a cause means that a call failed, of which so many did
 pub record CausesAreFailures (D : LogSide) (E : DataSide) (failures : ℕ) (p : D.Part) (d : E.Part) (actors : List Actor) : Type 0 where
@@ -32,7 +31,7 @@ pub record StandsForRun (D : LogSide) (E : DataSide) (c : Setup) (script : List 
   pub is_run : IsRun script opened run
   -- the groups of the actors, each once, follow each other from the run's start to the word SN
   pub log : List Entry
-  pub tiles : Tiles c.base log (slice_index s.words (index word.Sn))
+  pub tiles : Tiles c.base log (slice_index s.words sn_at)
   pub are_of_actors : Counted s.actors log
   -- of each user so many commits are answered; so each group has its entry, by whether its commit is and by the marks
   pub answered : ℕ → ℕ

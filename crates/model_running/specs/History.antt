@@ -1,12 +1,11 @@
 -- The history of a run: each reserved group, and how its commit stands by the marks.
 use Rattle.std.specs.Prelude.{List, cond, nat_lt, slice_index, ℕ}
-use Rattle.model_core.specs.{answered, end_of, index, lsn, tail_of}
+use Rattle.model_core.specs.{answered, ckpt_at, end_of, flushed_at, lsn, tail_of, write_at, wtail_at}
 use Rattle.model_report.specs.{state_by}
 use Rattle.model_report.specs.declared.entry.Entry.{Entry}
 use Rattle.model_report.specs.declared.entry.Marks.{Marks}
 use Rattle.model_report.specs.declared.entry.State.{State}
 use Rattle.model_report.specs.declared.entry.State.TheVariants.{Lost}
-use Rattle.model_core.specs.declared.words.Word.TheVariants as word
 use Rattle.model_core.specs.Groups as core
 
 -- a commit that isn't answered is lost
@@ -19,8 +18,8 @@ history_entry answered marks e = record { user = e.user; k = e.k; start = lsn e.
 -- the same in the list of words
 abbrev pub marks_in : List ℕ → Marks
 marks_in ws = record {
-  wtail = tail_of (slice_index ws (index word.Wtail));
-  write = slice_index ws (index word.Write);
-  flushed = slice_index ws (index word.Flushed);
-  ckpt = slice_index ws (index word.Ckpt);
+  wtail = tail_of (slice_index ws (wtail_at));
+  write = slice_index ws (write_at);
+  flushed = slice_index ws (flushed_at);
+  ckpt = slice_index ws (ckpt_at);
 }

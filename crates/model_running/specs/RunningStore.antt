@@ -2,7 +2,7 @@
 use Rattle.std.specs.Prelude.{List, true, ℕ, ◌<◌, ◌≡◌, ◌≤◌, ◌⊎◌}
 use lib.ListN.{get_elem?}
 use mathlib.Core.Option.{some}
-use Rattle.model_core.specs.{Actor, archives, Core, flat, HasHolder, HasLost, IsScripted, Listed, ReaderState, SharedWords}
+use Rattle.model_core.specs.{Actor, archives, Core, flat, HasHolder, HasLost, IsScripted, layout_of, Listed, ReaderState, SharedWords}
 use Rattle.model_core.specs.DataSide.{DataSide}
 use Rattle.model_core.specs.LogSide.{LogSide}
 use Rattle.model_core.specs.Setup.{Setup}
@@ -15,6 +15,7 @@ use Rattle.model_running.specs.LatchesHeld.{LatchesAreHeld}
 use Rattle.model_running.specs.ReadHalf.{ArchiverHas, HaveRunBlocks, ReadHalf, StaysInRun}
 use Rattle.model_running.specs.UsersClosed.{UsersClosed}
 use Rattle.model_core.specs.Actors as actor
+use Rattle.model_core.specs.declared.words.Layout.{Layout}
 use Rattle.model_core.specs.declared.words.LinkBuffer.TheVariants as link_buffer
 
 pub record BothHalves (D : LogSide) (E : DataSide) (c : Setup) (m : SharedWords) (g : LogGhost) (h : PageGhost) (ls : ℕ → List Listed) (p : D.Part) (d : E.Part) (actors : List Actor) : Type 0 where
@@ -41,13 +42,14 @@ pub record BothHalves (D : LogSide) (E : DataSide) (c : Setup) (m : SharedWords)
   pub paged : PageHalf E c m g.log (D.stable p) h ls d actors
 
 -- the same over the list of words
-pub record RunningStore (D : LogSide) (E : DataSide) (c : Setup) (ws : List ℕ) (ls : ℕ → List Listed) (p : D.Part) (d : E.Part) (actors : List Actor) : Type 0 where
+pub record RunningStore (D : LogSide) (E : DataSide) (c : Setup) (layout : Layout) (ws : List ℕ) (ls : ℕ → List Listed) (p : D.Part) (d : E.Part) (actors : List Actor) : Type 0 where
   pub shared : SharedWords
   pub log_ghost : LogGhost
   pub page_ghost : PageGhost
+  pub layout_is : layout ≡ layout_of c
   pub flat_is : ws ≡ flat shared
   pub both : BothHalves D E c shared log_ghost page_ghost ls p d actors
 
 -- the same of a store's whole state
 abbrev pub IsRunning : (D : LogSide) (E : DataSide) → Setup → Core D E → Type 0
-IsRunning D E c s = RunningStore D E c s.words s.lists s.log_part s.data_part s.actors
+IsRunning D E c s = RunningStore D E c s.layout s.words s.lists s.log_part s.data_part s.actors

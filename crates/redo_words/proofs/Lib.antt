@@ -1,1 +1,2 @@
 pub mod LaneLists
+pub mod PageNumbers

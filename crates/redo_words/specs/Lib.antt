@@ -1,4 +1,4 @@
 pub mod Lending
 pub mod Plain
 pub use Rattle.redo_words.specs.Lending.{Lends}
-pub use Rattle.redo_words.specs.Plain.{HoldsSum}
+pub use Rattle.redo_words.specs.Plain.{HoldsSum, shape_layout}

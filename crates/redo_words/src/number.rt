@@ -1,11 +1,11 @@
 // The numbers of words.
-ghost use Rattle.std.specs.Prelude.{◌≡◌};
-ghost use Rattle.model_core.specs.{index, word_count};
+ghost use Rattle.std.specs.Prelude.{◌≡◌, ◌<◌, ◌^◌};
+ghost use Rattle.model_core.specs.{index, page_stride, word_count};
 ghost use Rattle.model_core.specs.declared.words.Word.TheVariants as word;
 
 use crate::{Layout, Word};
 use model_core::{
-    BUFFER_BLOCKS, BUFFER_WORDS, CLOSED_LINKS, FLUSH_LISTS, FRAME_WORDS, READERS, WRITTEN_LINKS,
+    BUFFER_BLOCKS, BUFFER_WORDS, CLOSED_LINKS, FLUSH_LISTS, READERS, WORD_LANES, WRITTEN_LINKS,
 };
 
 // where each kind of word begins
@@ -30,18 +30,16 @@ const OLDEST_AT: u64 = 2;
 
 const FRAME_AT: u64 = 3;
 
-const PAGE_WORDS: u64 = FRAME_AT + FRAME_WORDS;
-
 /// How many words a layout has.
 pub fn count_of(layout: Layout) -> u64
-    ensures { result ≡ word_count layout.pages }
+    ensures { result ≡ word_count layout }
 {
-    PAGES_AT + layout.pages as u64 * PAGE_WORDS
+    first_word(layout, layout.pages)
 }
 
-/// The number of a word, counted from 0. It is the same in each layout that has the word.
-pub fn number_of(word: Word) -> u64
-    ensures { result ≡ index word }
+/// The number of a word, counted from 0. Those of pages' words depend on how many words a page has.
+pub fn number_of(layout: Layout, word: Word) -> u64
+    ensures { result ≡ index layout word }
 {
     match word {
         Word::Sn => 0,
@@ -58,16 +56,26 @@ pub fn number_of(word: Word) -> u64
         Word::Cell(place) => CELLS_AT + place as u64,
         Word::First(block) => FIRSTS_AT + block as u64,
         Word::Place(reader) => PLACES_AT + reader as u64,
-        Word::Latch(page) => first_word(page),
-        Word::Newest(page) => first_word(page) + NEWEST_AT,
-        Word::Oldest(page) => first_word(page) + OLDEST_AT,
-        Word::Frame(page, cell) => first_word(page) + FRAME_AT + cell as u64,
+        Word::Latch(page) => first_word(layout, page),
+        Word::Newest(page) => first_word(layout, page) + NEWEST_AT,
+        Word::Oldest(page) => first_word(layout, page) + OLDEST_AT,
+        Word::Frame(page, cell) => first_word(layout, page) + FRAME_AT + cell as u64,
     }
 }
 
-// The number of a page's first word.
-fn first_word(page: u32) -> u64
-    ensures { result ≡ index (word.Latch page) }
+// How many words a page has.
+fn page_words(layout: Layout) -> u64
+    ensures value { result ≡ page_stride layout }
+    ensures few { result < 2 ^ 30 }
 {
-    PAGES_AT + page as u64 * PAGE_WORDS
+    FRAME_AT + layout.page_size as u64 / WORD_LANES
+}
+
+// The number of a page's first word.
+#[tactic(auto, using(crate::proofs::PageNumbers::few_words))]
+fn first_word(layout: Layout, page: u32) -> u64
+    ensures value { result ≡ index layout (word.Latch page) }
+    ensures small { result < 2 ^ 63 }
+{
+    PAGES_AT + page as u64 * page_words(layout)
 }

@@ -2,17 +2,18 @@
 ghost use Rattle.std.specs.Prelude.{◌≡◌, ℕ, length, slice_index, slice_set, IfOk};
 ghost use Rattle.model_core.specs.{index, IsWord, OnWord, OpWords, word_count, word_found, words_after};
 ghost use Rattle.model_core.specs.declared.ops.Answer.TheVariants as answer;
-ghost use Rattle.redo_words.specs.Plain.{HoldsSum};
+ghost use Rattle.redo_words.specs.Plain.{HoldsSum, shape_layout};
 
 use crate::{Answer, Layout, Op, Word, number_of};
+use model_base::Shape;
 use redo_lsn::NoMemory;
 use std::alloc::Global;
 use std::marker::Model;
 
-/// The words of a store of so many pages. Contracts see the list of them by their numbers. Only `new` takes memory.
+/// The words of a store, with which there are. Contracts see the list of them by their numbers. Only `new` takes memory.
 #[derive(Debug, Drop)]
 pub struct PlainWords {
-    pages: u32,
+    layout: Layout,
     words: Vec<u64>,
 }
 
@@ -23,27 +24,31 @@ impl Model for PlainWords {
 
     ghost Value = { Plain };
 
-    ghost view = { λ plain. record { pages = plain.pages; words = plain.words.items } };
+    ghost view = { λ plain. record { layout = plain.layout; words = plain.words.items } };
 
-    ghost invariant = { λ plain. length plain.words.items ≡ word_count plain.pages };
+    ghost invariant = { λ plain. length plain.words.items ≡ word_count plain.layout };
 }
 
 impl PlainWords {
-    /// The words of a store of so many pages, each 0.
-    pub fn new(alloc: Global, pages: u32) -> Result<PlainWords, NoMemory>
-        ensures pages { IfOk result (λ plain. plain.pages ≡ pages) }
-        ensures count { IfOk result (λ plain. length plain.words ≡ word_count pages) }
+    /// The words of a store of this shape, each 0.
+    pub fn new(alloc: Global, shape: &Shape) -> Result<PlainWords, NoMemory>
+        ensures layout { IfOk result (λ plain. plain.layout ≡ shape_layout shape.now) }
+        ensures count { IfOk result (λ plain. length plain.words ≡ word_count (shape_layout shape.now)) }
         ensures zero { IfOk result (λ plain. (i : ℕ) → slice_index plain.words i ≡ 0) }
     {
-        let count = crate::count_of(Layout { pages }) as usize;
+        let layout = Layout {
+            pages: shape.pages,
+            page_size: shape.page_size,
+        };
+        let count = crate::count_of(layout) as usize;
         let words = vec![in alloc; 0u64; count]?;
-        Ok(PlainWords { pages, words })
+        Ok(PlainWords { layout, words })
     }
 
     /// The words, in their order.
     pub fn as_slice(&self) -> &[u64]
         ensures words { result.now ≡ self.now.words }
-        ensures count { length result.now ≡ word_count self.now.pages }
+        ensures count { length result.now ≡ word_count self.now.layout }
     {
         self.words.as_slice()
     }
@@ -52,11 +57,11 @@ impl PlainWords {
     #[inline(always)]
     pub fn play(&mut self, op: Op) -> Answer
         requires on_word { OnWord op }
-        requires there { OpWords self.old.pages op }
-        requires sum { HoldsSum op self.old.words }
-        ensures pages { self.new.pages ≡ self.old.pages }
-        ensures words { self.new.words ≡ words_after op self.old.words }
-        ensures answer { result ≡ answer.Old (word_found op self.old.words) }
+        requires there { OpWords self.old.layout op }
+        requires sum { HoldsSum self.old.layout op self.old.words }
+        ensures layout { self.new.layout ≡ self.old.layout }
+        ensures words { self.new.words ≡ words_after self.old.layout op self.old.words }
+        ensures answer { result ≡ answer.Old (word_found self.old.layout op self.old.words) }
     {
         match op {
             Op::Load(word) => Answer::Old(self.word(word)),
@@ -79,21 +84,21 @@ impl PlainWords {
     // What stands in a word.
     #[tactic(auto, using(model_core::proofs::WordNumbers::index_below))]
     fn word(&self, word: Word) -> u64
-        requires { IsWord self.now.pages word }
-        ensures { result ≡ slice_index self.now.words (index word) }
+        requires { IsWord self.now.layout word }
+        ensures { result ≡ slice_index self.now.words (index self.now.layout word) }
     {
-        self.words[number_of(word) as usize]
+        self.words[number_of(self.layout, word) as usize]
     }
 
     // Writes a word, and answers what stood there.
     #[tactic(auto, using(model_core::proofs::WordNumbers::index_below))]
     fn put(&mut self, word: Word, number: u64) -> u64
-        requires { IsWord self.old.pages word }
-        ensures pages { self.new.pages ≡ self.old.pages }
-        ensures words { self.new.words ≡ slice_set self.old.words (index word) number }
-        ensures old { result ≡ slice_index self.old.words (index word) }
+        requires { IsWord self.old.layout word }
+        ensures layout { self.new.layout ≡ self.old.layout }
+        ensures words { self.new.words ≡ slice_set self.old.words (index self.old.layout word) number }
+        ensures old { result ≡ slice_index self.old.words (index self.old.layout word) }
     {
-        let at = number_of(word) as usize;
+        let at = number_of(self.layout, word) as usize;
         let old = self.words[at];
         self.words[at] = number;
         old
