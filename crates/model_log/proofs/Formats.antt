@@ -26,6 +26,13 @@ run_format-layout shape = either-layout (shape.slots == SLOTS) shape
 pub of_run : (P : Layout → Type 0) (shape : Shape) → P (run_layout shape) → P (layout_of (run_format shape) shape)
 of_run P shape is = subst P (sym (run_format-layout shape)) is
 
+run-not_one : (many : Bool) → cond many Three Two ≢ One
+run-not_one true is = absurd cc
+run-not_one false is = absurd cc
+
+pub run_format-not_one : (shape : Shape) → run_format shape ≢ One
+run_format-not_one shape = run-not_one (shape.slots == SLOTS)
+
 -- and so is that of each format but the first
 pub other-layout : (format : Format) (shape : Shape) → format ≢ One → layout_of format shape ≡ run_layout shape
 other-layout One shape other = absurd (other refl)

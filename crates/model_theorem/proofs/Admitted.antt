@@ -1,5 +1,5 @@
 -- What the parts of the promise admit together.
-use Rattle.std.proofs.Common.{◌≡◌, ℕ, zero, suc, ◌+◌, ◌==◌, Bool, true, false, cond, length, slice_get, ◌≤◌, ◌<◌, List, [], ◌∷◌, Some, None, Ok, sym, ap, ◌∙◌, refl, subst, arith, inl, inr, ⊎_elim}
+use Rattle.std.proofs.Common.{◌≡◌, ℕ, zero, suc, ◌+◌, ◌==◌, Bool, true, false, cond, length, slice_get, ◌≤◌, ◌<◌, List, [], ◌∷◌, Some, None, Ok, sym, ap, ◌∙◌, refl, subst, arith, inl, inr, ⊎_elim, ◌≢◌}
 use Rattle.std.specs.Prelude.{take}
 use Rattle.model_base.specs.declared.shape.Shape.{Shape}
 use Rattle.model_store.specs.{folded}
@@ -11,9 +11,9 @@ use Rattle.model_device.specs.declared.write.Write.{Write}
 use Rattle.model_report.specs.{count_up_to, entries_of_user, HasLeft, IsLeft, IsLegal, IsLegalEntry, lines_of_user, wholes_of}
 use Rattle.model_report.specs.declared.entry.Entry.{Entry}
 use Rattle.model_report.specs.declared.entry.State.TheVariants.{Lost, Flushed}
-use Rattle.model_log.specs.{group_length, head_among, head_of, layout_of, lsn_of, newer, newest_checkpoint, read_checkpoint, run_layout, sn_of, start_after}
+use Rattle.model_log.specs.{group_length, head_among, head_of, layout_of, lsn_of, newer, newest_checkpoint, read_checkpoint, sn_of, start_after, run_format, header_block}
 use Rattle.model_log.specs.declared.head.Format.{Format}
-use Rattle.model_log.specs.declared.head.Format.TheVariants.{Two}
+use Rattle.model_log.specs.declared.head.Format.TheVariants.{One}
 use Rattle.model_log.specs.declared.layout.Layout.{Layout}
 use Rattle.model_script.specs.declared.script.ScriptLine.{ScriptLine}
 use Rattle.model_base.specs.Spelling as spelling
@@ -24,6 +24,7 @@ use Rattle.model_script.specs.Grammar as grammar
 use Rattle.model_script.proofs.Unfit.{fitting-none}
 use Rattle.model_base.specs.{default_shape}
 use Rattle.model_store.specs.Reading.{Reading}
+use Rattle.model_store.proofs.Heads.{head-sizes}
 use Rattle.model_base.specs.declared.limits.TheConstants.{LSN_LIMIT, START_LSN}
 use Rattle.model_theorem.specs.Values.{Opened}
 use Rattle.model_parts.specs.{IsUnopened}
@@ -31,6 +32,7 @@ use Rattle.model_theorem.specs.Opening.{HasCheckpoint, IsOpeningDone, IsOpeningS
 use Rattle.model_theorem.proofs.Refused.{base-image}
 use Rattle.model_theorem.specs.Examples.{AreOfBlocks, IsAdmitted, MovedCheckpoint, new_store, ReadsAsOpened, lost_run, line_of_value, two_lines, text_of_two, text_of_one, empty_crash, lost_crash, stopped_crash}
 use Rattle.model_log.specs.declared.layout.TheConstants.{HEADER_BLOCKS, HEADER_BYTES}
+use Rattle.model_log.proofs.Formats.{format-of_run, other-layout}
 
 -- WHAT STANDS IN THE HEADER while only log blocks are written
 unwritten : (writes : List Write) (k : ℕ) → k < HEADER_BLOCKS → AreOfBlocks writes → IsCovered writes k → ⊥
@@ -62,15 +64,21 @@ found-checkpoint log data_bytes opened reading as_opened =
     subst (λ (shape : Shape). HasCheckpoint reading.format shape reading.number reading.ckpt log) as_opened.shape
     (record { head = as_opened.is_read.scan.devices.head.head; newest = as_opened.is_read.scan.checkpoint })
 
+-- and in formats 2 and 3 that is of the format of runs
+run-checkpoint : (format : Format) (shape : Shape) (number ckpt : ℕ) (log : List ℕ) → format ≢ One → HasCheckpoint format shape number ckpt log
+    → HasCheckpoint (run_format shape) shape number ckpt log
+run-checkpoint format shape number ckpt log other is =
+    subst (λ (one : Format). HasCheckpoint one shape number ckpt log)
+    (format-of_run format shape (head-sizes (header_block 0 log) (header_block 2 log) format shape is.head) other) is
+
 -- so the checkpoint that is read is newer than the one that was found, in each image
 opening-done : (found log data_bytes : List ℕ) (writes : List Write) (reads : List ℕ) (opened : Opened) (reading : Reading) → ReadsAsOpened log data_bytes opened reading
     → MovedCheckpoint found opened reading → AreOfBlocks writes → IsOpeningDone opened.shape (settled found) (record { base = log; writes = writes; reads = reads })
 opening-done found log data_bytes writes reads opened reading as_opened held are =
     let disk : Disk = record { base = log; writes = writes; reads = reads } in
     let long : HEADER_BYTES ≤ length log = as_opened.is_read.scan.devices.head.long in
-    let here : HasCheckpoint Two opened.shape reading.number reading.ckpt log =
-    subst (λ (format : Format). HasCheckpoint format opened.shape reading.number reading.ckpt log) held.format
-    (found-checkpoint log data_bytes opened reading as_opened) in
+    let here : HasCheckpoint (run_format opened.shape) opened.shape reading.number reading.ckpt log =
+    run-checkpoint reading.format opened.shape reading.number reading.ckpt log held.format (found-checkpoint log data_bytes opened reading as_opened) in
     record {
       format = held.older.format;
       number = held.older.found;
@@ -81,7 +89,7 @@ opening-done found log data_bytes writes reads opened reading as_opened held are
         ckpt = reading.ckpt;
         newest = record {
           head = same-head disk image long are fair.possible ∙ here.head;
-          newest = same-newest (run_layout opened.shape) disk image long are fair.possible ∙ here.newest;
+          newest = same-newest (layout_of (run_format opened.shape) opened.shape) disk image long are fair.possible ∙ here.newest;
         };
         from = omega (arith, held.older.older);
       };
@@ -99,7 +107,7 @@ opening-stopped log data_bytes opened reading disk as_opened base =
       found = here;
       unmoved = subst (IsUnopened reading.format opened.shape reading.number reading.ckpt) (sym base) (record {
         head = here.head;
-        newest = λ two. subst (λ (format : Format). newest_checkpoint (layout_of format opened.shape) log ≡ Some (reading.number, reading.ckpt)) two here.newest;
+        newest = λ other. subst (λ (layout : Layout). newest_checkpoint layout log ≡ Some (reading.number, reading.ckpt)) (other-layout reading.format opened.shape other) here.newest;
       });
     }
 

@@ -6,12 +6,13 @@ use Rattle.std.proofs.lemmas.Bool.Decides.{nat_tests}
 use Rattle.model_base.specs.declared.shape.Shape.{Shape}
 use Rattle.model_base.specs.{IsWithinLimits}
 use Rattle.model_log.specs.declared.group.Whole.{Whole}
-use Rattle.model_log.specs.{groups_of, IsAtDataStart, IsRunOf, run_layout, start_after}
-use Rattle.model_log.specs.declared.head.Format.TheVariants.{Two}
+use Rattle.model_log.specs.{groups_of, IsAtDataStart, IsRunOf, run_layout, start_after, run_format, newest_checkpoint}
 use Rattle.model_device.specs.Disk.{Disk}
 use Rattle.model_log.specs.declared.block.BlockView.{BlockView}
+use Rattle.model_log.proofs.Formats.{of_run}
+use Rattle.model_log.specs.declared.layout.Layout.{Layout}
 use Rattle.model_page.specs.declared.content.Content.{Content}
-use Rattle.model_store.specs.{folded, HasScan, IsFair, IsFairLog, IsNoNewerCopy, IsReadPage, IsStorable, page_folded, taken}
+use Rattle.model_store.specs.{folded, HasScan, IsFair, IsFairLog, IsNoNewerCopy, IsReadPage, IsStorable, page_folded, taken, IsScan}
 use Rattle.model_store.specs.Reading.{Reading}
 use Rattle.model_page.specs.{copy_lsn}
 use Rattle.model_theorem.proofs.Cuts.{IsCut, kept-page, copies-old}
@@ -67,7 +68,7 @@ record IsRead (held : Held) (log store : List ℕ) : Type 0 where
   after : List Whole
   views : List BlockView
   parts : groups_of_run held ≡ before ++ (middle ++ after)
-  scan : HasScan log store Two held.opened.shape number ckpt views middle end
+  scan : HasScan log store (run_format held.opened.shape) held.opened.shape number ckpt views middle end
   read_end : AllByRecursion (λ (whole : Whole). whole.end ≤ end) (before ++ middle)
   other_ends : AllByRecursion (λ (whole : Whole). end < whole.end) after
   each : (p : ℕ) (page : Content) → slice_get held.opened.pages p ≡ Some page
@@ -117,8 +118,8 @@ is-read law held log store is log_fair fair =
             log_long = omega (arith, holds.long, log_fair.possible.same_length);
             data_long = omega (arith, pages_held.long, fair.possible.same_length);
           };
-          checkpoint = reads.newest;
-          scan = scan.scan;
+          checkpoint = of_run (λ (layout : Layout). newest_checkpoint layout log ≡ Some (reads.number, reads.ckpt)) shape reads.newest;
+          scan = of_run (λ (layout : Layout). IsScan shape layout.blocks (taken layout log) reads.ckpt scan.views scan.middle scan.mark) shape scan.scan;
         };
         read_end = scan.read_end;
         other_ends = scan.other_ends;
@@ -139,7 +140,7 @@ is-read law held log store is log_fair fair =
 
 reading-of : (held : Held) (log store : List ℕ) → IsRead held log store → Reading
 reading-of held log store found = record {
-  format = Two;
+  format = run_format held.opened.shape;
   shape = held.opened.shape;
   number = found.number;
   ckpt = found.ckpt;

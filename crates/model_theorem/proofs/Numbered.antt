@@ -5,8 +5,7 @@ use Rattle.model_base.specs.declared.shape.Shape.{Shape}
 use Rattle.model_log.specs.declared.group.Whole.{Whole}
 use Rattle.model_device.specs.{sector}
 use Rattle.model_device.specs.Disk.{Disk}
-use Rattle.model_log.specs.{fits_checksum, head_among, head_of, newer, newest_checkpoint, place_of, read_checkpoint, read_head, run_layout}
-use Rattle.model_log.specs.declared.head.Format.TheVariants.{Two}
+use Rattle.model_log.specs.{fits_checksum, head_among, head_of, newer, newest_checkpoint, place_of, read_checkpoint, read_head, run_layout, run_format}
 use Rattle.model_log.specs.declared.head.Head.{Head}
 use Rattle.model_log.specs.declared.head.Head.TheVariants.{Good}
 use Rattle.model_log.specs.declared.layout.Layout.{Layout}
@@ -20,6 +19,7 @@ use Rattle.model_theorem.specs.Older.{HeldOlder}
 use Rattle.model_theorem.specs.Opening.{HasCheckpointFrom, IsOpenedBefore}
 use Rattle.model_theorem.specs.Closed.{Held, IsHeld, groups_of_run}
 use Rattle.model_log.specs.declared.layout.TheConstants.{HEADER_BLOCKS}
+use Rattle.model_log.proofs.Formats.{of_run}
 
 -- this is a checkpoint, and its number isn't below that
 record IsFrom (lowest : ℕ) (found : Option (ℕ × ℕ)) : Type 0 where
@@ -91,12 +91,15 @@ holds-checkpoint shape s wholes marks tails disk image holds fair =
     λ k below. stands-sector disk image k holds.sectors fair (omega (arith, holds.long)) in
     let found : IsFrom marks.number (newest_checkpoint (run_layout shape) image) =
     newest-from (run_layout shape) marks.number marks.ckpt image (holds.checkpoint (sector place image) (at place low)) in
-    let head : head_of image ≡ Good Two shape = heads-good (Good Two shape) (sector 0 image) (sector 2 image)
+    let head : head_of image ≡ Good (run_format shape) shape = heads-good (Good (run_format shape) shape) (sector 0 image) (sector 2 image)
     (holds.heads 0 (inl refl) (sector 0 image) (at 0 (omega arith))) (holds.heads 2 (inr refl) (sector 2 image) (at 2 (omega arith))) in
     record {
       number = found.number;
       ckpt = found.ckpt;
-      newest = record { head = head; newest = found.is };
+      newest = record {
+        head = head;
+        newest = of_run (λ (layout : Layout). newest_checkpoint layout image ≡ Some (found.number, found.ckpt)) shape found.is;
+      };
       from = found.from;
     }
 

@@ -5,10 +5,12 @@ use Rattle.std.proofs.lemmas.Bool.Decides.{nat_tests}
 use Rattle.model_base.specs.declared.shape.Shape.{Shape}
 use Rattle.model_device.specs.{IsImage}
 use Rattle.model_device.specs.Disk.{Disk}
-use Rattle.model_log.specs.{IsTiled, layout_of, newest_checkpoint, run_layout, start_after}
+use Rattle.model_log.specs.{IsTiled, layout_of, newest_checkpoint, run_layout, start_after, run_format}
 use Rattle.model_log.specs.declared.head.Format.{Format}
-use Rattle.model_log.specs.declared.head.Format.TheVariants.{Two}
+use Rattle.model_log.specs.declared.head.Format.TheVariants.{One}
 use Rattle.model_log.specs.declared.head.Head.TheVariants.{Good}
+use Rattle.model_log.proofs.Formats.{other-layout, run_format-not_one}
+use Rattle.model_log.specs.declared.layout.Layout.{Layout}
 use Rattle.model_script.specs.declared.script.ScriptLine.{ScriptLine}
 use Rattle.model_store.specs.{IsFairLog}
 use Rattle.model_store.specs.Reading.{Reading}
@@ -72,11 +74,12 @@ pub refuses-run : (shape : Shape) (armed met : Disk) (run : Ran) → IsOpenedBef
 refuses-run shape armed met run is runs =
     let done : IsOpeningDone shape armed met = is in
     let here : HasCheckpointFrom shape (done.number + 1) met.base = done.moved met.base (base-fair met) in
-    let format : done.format ≡ Two = one-format done.format Two shape (sym done.found.head ∙ sym runs.head ∙ here.newest.head) in
-    let found : newest_checkpoint (run_layout shape) armed.base ≡ Some (done.number, done.ckpt) =
+    let layout : Layout = layout_of (run_format shape) shape in
+    let format : done.format ≡ run_format shape = one-format done.format (run_format shape) shape (sym done.found.head ∙ sym runs.head ∙ here.newest.head) in
+    let found : newest_checkpoint layout armed.base ≡ Some (done.number, done.ckpt) =
     subst (λ (one : Format). newest_checkpoint (layout_of one shape) armed.base ≡ Some (done.number, done.ckpt)) format done.found.newest in
-    let same = same-number (newest_checkpoint (run_layout shape) armed.base) (newest_checkpoint (run_layout shape) met.base) done.number done.ckpt here.number here.ckpt
-    (runs.unmoved Two) found here.newest.newest in
+    let same = same-number (newest_checkpoint layout armed.base) (newest_checkpoint layout met.base) done.number done.ckpt here.number here.ckpt
+    (runs.unmoved (run_format shape)) found here.newest.newest in
     absurd (omega (arith, here.from))
 
 pub refuses-stopped : (shape : Shape) (armed met : Disk) → IsOpenedBefore shape armed met None → WasOpened shape armed met → ⊥
@@ -84,7 +87,8 @@ refuses-stopped shape armed met is opened =
     let stopped : IsOpeningStopped shape armed met = is in
     ⊎_elim (λ head. head (stopped.unmoved.head ∙ sym stopped.found.head))
     (λ moved.
-    let format : stopped.format ≡ Two = one-format stopped.format Two shape (sym stopped.found.head ∙ moved.0) in
+    let format : stopped.format ≡ run_format shape = one-format stopped.format (run_format shape) shape (sym stopped.found.head ∙ moved.0) in
+    let other : stopped.format ≢ One = λ is. run_format-not_one shape (sym format ∙ is) in
     let found : newest_checkpoint (run_layout shape) armed.base ≡ Some (stopped.number, stopped.ckpt) =
-    subst (λ (one : Format). newest_checkpoint (layout_of one shape) armed.base ≡ Some (stopped.number, stopped.ckpt)) format stopped.found.newest in
-    moved.1 (stopped.unmoved.newest format ∙ sym found)) opened
+    subst (λ (layout : Layout). newest_checkpoint layout armed.base ≡ Some (stopped.number, stopped.ckpt)) (other-layout stopped.format shape other) stopped.found.newest in
+    moved.1 (stopped.unmoved.newest other ∙ sym found)) opened

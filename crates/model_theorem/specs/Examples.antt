@@ -8,9 +8,9 @@ use Rattle.model_page.specs.{blank_pages}
 use Rattle.model_device.specs.{Crashes, settled}
 use Rattle.model_device.specs.Disk.{Disk}
 use Rattle.model_device.specs.declared.write.Write.{Write}
-use Rattle.model_log.specs.{head_of, layout_of, newest_checkpoint, run_layout, start_after}
+use Rattle.model_log.specs.{head_of, layout_of, newest_checkpoint, run_layout, start_after, run_format}
 use Rattle.model_log.specs.declared.head.Format.{Format}
-use Rattle.model_log.specs.declared.head.Format.TheVariants.{Two}
+use Rattle.model_log.specs.declared.head.Format.TheVariants.{One}
 use Rattle.model_log.specs.declared.head.Head.TheVariants.{Good}
 use Rattle.model_log.specs.declared.layout.TheConstants.{HEADER_BYTES}
 use Rattle.model_script.specs.{script_end, script_of}
@@ -49,11 +49,12 @@ pub record IsStillUnopened (shape : Shape) (armed_from crashed_from : Disk) : Ty
   pub unmoved : (format : Format) → newest_checkpoint (layout_of format shape) crashed_from.base
       ≡ newest_checkpoint (layout_of format shape) armed_from.base
 
--- at the log device's last good sync its header was another than was found, or the newest checkpoint was, in format 2
+-- at the log device's last good sync its header was another than was found, or the newest checkpoint was, in
+-- the format of runs
 abbrev pub WasOpened : Shape → (armed_from crashed_from : Disk) → Type 0
 WasOpened shape armed_from crashed_from =
     (head_of crashed_from.base ≢ head_of armed_from.base)
-    ⊎ ((head_of armed_from.base ≡ Good Two shape)
+    ⊎ ((head_of armed_from.base ≡ Good (run_format shape) shape)
     × (newest_checkpoint (run_layout shape) crashed_from.base ≢ newest_checkpoint (run_layout shape) armed_from.base))
 
 -- ADMITTED.
@@ -68,11 +69,11 @@ pub record ReadsAsOpened (log data_bytes : List ℕ) (opened : Opened) (reading 
   pub pages : reading.pages ≡ opened.pages
   pub end : reading.end ≡ start_after opened.end
 
--- The log device held these bytes when its fuse was armed, with an older checkpoint than is read, which is
--- one of format 2.
+-- The log device held these bytes when its fuse was armed, with an older checkpoint than is read, which
+-- isn't one of format 1.
 pub record MovedCheckpoint (found : List ℕ) (opened : Opened) (reading : Reading) : Type 0 where
   pub older : HeldOlder opened.shape reading.number (settled found)
-  pub format : reading.format ≡ Two
+  pub format : reading.format ≢ One
 
 -- the writes are of log blocks, past the header and the checkpoints
 abbrev pub AreOfBlocks : List Write → Type 0

@@ -6,9 +6,8 @@ use Rattle.model_base.specs.{default_shape}
 use Rattle.model_base.specs.declared.shape.Shape.{Shape}
 use Rattle.model_device.specs.{HasOneImage}
 use Rattle.model_device.specs.Disk.{Disk}
-use Rattle.model_log.specs.{head_of, layout_of, newest_checkpoint}
+use Rattle.model_log.specs.{head_of, layout_of, newest_checkpoint, run_format}
 use Rattle.model_log.specs.declared.head.Format.{Format}
-use Rattle.model_log.specs.declared.head.Format.TheVariants.{Two}
 use Rattle.model_log.specs.declared.head.Head.TheVariants.{Good}
 use Rattle.model_parts.specs.{formatted_store, IsUnopened}
 use Rattle.model_store.specs.{IsFairLog, IsOrderly}
@@ -26,14 +25,14 @@ pub record HasCheckpoint (format : Format) (shape : Shape) (number ckpt : ℕ) (
   pub head : head_of log ≡ Good format shape
   pub newest : newest_checkpoint (layout_of format shape) log ≡ Some (number, ckpt)
 
--- they are of format 2, and the number of their newest checkpoint isn't below this
+-- they are of the format of runs, and the number of their newest checkpoint isn't below this
 pub record HasCheckpointFrom (shape : Shape) (lowest : ℕ) (log : List ℕ) : Type 0 where
   pub number : ℕ
   pub ckpt : ℕ
-  pub newest : HasCheckpoint Two shape number ckpt log
+  pub newest : HasCheckpoint (run_format shape) shape number ckpt log
   pub from : lowest ≤ number
 
--- Opening came to its end: every fair image of the log device is of format 2, and has a newer checkpoint than stood there,
+-- Opening came to its end: every fair image of the log device is of the format of runs, and has a newer checkpoint than stood there,
 -- at its last good sync, when its fuse was armed.
 pub record IsOpeningDone (shape : Shape) (armed_from disk : Disk) : Type 0 where
   pub format : Format
@@ -43,7 +42,7 @@ pub record IsOpeningDone (shape : Shape) (armed_from disk : Disk) : Type 0 where
   pub moved : (image : List ℕ) → IsFairLog disk image → HasCheckpointFrom shape (number + 1) image
 
 -- Opening was stopped: at the log device's last good sync the header was still of the format that stood there when its fuse
--- was armed, and in format 2 the newest checkpoint was still the same.
+-- was armed, and in formats 2 and 3 the newest checkpoint was still the same.
 pub record IsOpeningStopped (shape : Shape) (armed_from disk : Disk) : Type 0 where
   pub format : Format
   pub number : ℕ
