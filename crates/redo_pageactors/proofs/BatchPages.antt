@@ -8,7 +8,6 @@ use Rattle.std.specs.List.{flat_map}
 use Rattle.model_base.specs.{frame_length}
 use Rattle.model_base.specs.declared.limits.TheConstants.{PAGE_TRAILER, USER_START}
 use Rattle.model_core.specs.{BatchPage, no_page}
-use Rattle.model_core.specs.declared.limits.TheConstants.{BATCH_PAGES}
 use Rattle.model_page.specs.{user_part}
 use Rattle.redo_pageactors.specs.CleanerView.{batch_pages, page_bytes}
 
@@ -26,8 +25,8 @@ length_batch_pages n [] users rims = refl
 length_batch_pages n (x ∷ xs) users rims = let r = length_batch_pages n xs (drop n users) (drop frame_length rims) in omega arith
 
 -- stretches of n bytes each: one more, the first, all but the first
-pub one_more : (count n : ℕ) → count < BATCH_PAGES → count * n + n ≤ BATCH_PAGES * n
-one_more count n few = let h : suc count * n ≤ BATCH_PAGES * n = mul-le-mul_right n few in omega (arith, suc-mul count n)
+pub one_more : (count most n : ℕ) → count < most → count * n + n ≤ most * n
+one_more count most n few = let h : suc count * n ≤ most * n = mul-le-mul_right n few in omega (arith, suc-mul count n)
 
 pub some_first : (count n : ℕ) → 0 < count → n ≤ count * n
 some_first count n some = let h : suc 0 * n ≤ count * n = mul-le-mul_right n some in omega arith

@@ -8,6 +8,7 @@ use std::marker::Model;
 pub struct Cleaner {
     pub(crate) pages: u32,
     pub(crate) page_size: u32,
+    pub(crate) slots: u32,
     pub(crate) flushed: u64,
     pub(crate) page: u32,
     pub(crate) left: u32,

@@ -1,7 +1,7 @@
 // What the cleaner asks for.
 ghost use Rattle.std.specs.Prelude.{◌≡◌, ◌<◌, length};
 ghost use Rattle.model_core.specs.Actors as actor;
-ghost use Rattle.model_core.specs.{first_of_batch, lent, next};
+ghost use Rattle.model_core.specs.{first_of_batch, frame_words, lent, next};
 ghost use Rattle.redo_words.specs.{Lends};
 
 use crate::cleaner::Cleaner;
@@ -17,6 +17,13 @@ impl Cleaner {
     {
         let pair = &self.batch[0];
         pair.0
+    }
+
+    /// How many words the frame of a page has.
+    pub fn frame_words(&self) -> u64
+        ensures { result ≡ frame_words self.now.page_size }
+    {
+        u64::from(self.page_size) / WORD_LANES
     }
 
     /// The Op that it asks for.

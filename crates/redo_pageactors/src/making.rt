@@ -8,19 +8,19 @@ use crate::batch::RIM;
 use crate::checkpointer::Checkpointer;
 use crate::cleaner::Cleaner;
 use model_base::Shape;
-use model_core::{BATCH_PAGES, CheckpointerStep, CleanerStep};
+use model_core::{CheckpointerStep, CleanerStep};
 use model_log::BLOCK_HEADER;
 use redo_lsn::NoMemory;
 use std::alloc::Global;
 
 impl Cleaner {
-    /// The cleaner of a store of this shape. It takes the room for a batch.
+    /// The cleaner of a store of this shape. It takes the room for a batch, which has a page for each slot.
     pub fn new(alloc: Global, shape: &Shape) -> Result<Cleaner, NoMemory>
         requires { IsWithinLimits shape.now }
-        ensures { IfOk result (λ cleaner. cleaner ≡ new_cleaner shape.now.pages shape.now.page_size) }
+        ensures { IfOk result (λ cleaner. cleaner ≡ new_cleaner shape.now.pages shape.now.page_size shape.now.slots) }
     {
         let page = shape.page_size as usize;
-        let most = BATCH_PAGES as usize;
+        let most = shape.slots as usize;
         let kept = Vec::with_capacity(alloc, page)?;
         let batch = Vec::with_capacity(alloc, most)?;
         let users = Vec::with_capacity(alloc, most * (page - RIM))?;
@@ -28,6 +28,7 @@ impl Cleaner {
         Ok(Cleaner {
             pages: shape.pages,
             page_size: shape.page_size,
+            slots: shape.slots,
             flushed: 0,
             page: 0,
             left: 0,

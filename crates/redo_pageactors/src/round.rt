@@ -6,7 +6,7 @@ ghost use Rattle.model_core.specs.{after_of, checked_of, cleaner_program, cleane
 
 use crate::batch::{RIM, drop_bytes, drop_page, split_page};
 use crate::cleaner::Cleaner;
-use model_core::{BATCH_PAGES, CleanerStep, WORD_LANES};
+use model_core::{CleanerStep, WORD_LANES};
 use redo_words::{Answer, Step, code_of, old_of, push_lanes};
 
 impl Cleaner {
@@ -28,9 +28,9 @@ impl Cleaner {
     /// Whether its round is over with the page that it is at.
     #[tactic(auto, using(crate::proofs::BatchPages::length_batch_pages))]
     fn is_over(&self) -> bool
-        ensures { result ≡ (if self.now.left == 1 then true else length self.now.batch == BATCH_PAGES) }
+        ensures { result ≡ (if self.now.left == 1 then true else length self.now.batch == self.now.slots) }
     {
-        self.left == 1 || self.batch.len() as u64 == BATCH_PAGES
+        self.left == 1 || self.batch.len() as u64 == u64::from(self.slots)
     }
 
     /// The page after the one that it is at.
@@ -69,7 +69,7 @@ impl Cleaner {
     #[tactic(auto, using(crate::proofs::BatchPages::batch_pages_enter, crate::proofs::BatchPages::length_batch_pages, crate::proofs::BatchPages::one_more))]
     fn enters_batch(&mut self)
         requires loaded { length self.old.kept ≡ self.old.page_size }
-        requires room { length self.old.batch < BATCH_PAGES }
+        requires room { length self.old.batch < self.old.slots }
         requires step { self.old.step ≡ CleanerStep.LoadFlushed }
         ensures { self.new ≡ record self.old {
           batch = self.old.batch ++ (record { page = self.old.page; lsn = self.old.newest; bytes = self.old.kept }) ∷ [];

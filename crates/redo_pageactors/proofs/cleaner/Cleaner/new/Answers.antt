@@ -10,6 +10,7 @@ pub invariant_of-result : goal.invariant_of-result
 invariant_of-result c = let size = whole_sectors c.args.shape.now c.requires in record {
   page = omega arith;
   page_size = size;
+  some_slots = (let eight = c.requires.slots in omega arith);
   kept = search rules;
   batch = search rules;
   users = search rules;
