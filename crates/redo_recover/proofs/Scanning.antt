@@ -24,7 +24,7 @@ use Rattle.redo_recover.specs.declared.piece.Piece.{Piece}
 use Rattle.redo_recover.specs.declared.taking.Stand.{Stand}
 use Rattle.redo_recover.specs.declared.taking.TheConstants.{TAILS}
 use Rattle.redo_recover.proofs.Contents.{content-both}
-use Rattle.redo_recover.proofs.Standing.{at-takes}
+use Rattle.redo_recover.proofs.Standing.{at-takes, three-not_one}
 use Rattle.redo_disk.specs.{part}
 use Rattle.redo_recover.proofs.Pieces.{piece-sector}
 use Rattle.redo_recover.proofs.Starting.{sector-part}

@@ -63,6 +63,9 @@ at-takes format lsn place tails =
     when-takes (ltb lsn LSN_LIMIT) place tails (found_among format lsn place (four_of tails) (five_of tails)) (taken_among format lsn place (four_of tails) (five_of tails))
     (among-takes format lsn place tails)
 
+pub three-not_one : Three ≢ One
+three-not_one is = absurd cc
+
 -- WHERE IT STANDS. In formats 2 and 3 a block in its place is full, and one in a tail is taken only where none is read in the place.
 abbrev pub IsAt : Format → ℕ → List ℕ → List ℕ → List ℕ → BlockView → Stand → Type 0
 IsAt format lsn place four five view Place =
