@@ -6,7 +6,7 @@ ghost use Rattle.model_log.specs.{fits_checksum, format_of, good_head, head_amon
 use model_base::START_LSN;
 use model_log::{Format, Head};
 use redo_crc::sector::{field_u32, field_u64, is_sealed, put, seal};
-use redo_lsn::{Limits, Shape};
+use redo_lsn::{Limits, Shape, has_sizes_of};
 
 /// Who made the store.
 const CREATOR: &[u8; 32] = b"redolab 1\0\0\0\0\0\0\0\0\0\0\0\0\0\0\0\0\0\0\0\0\0\0\0";
@@ -68,7 +68,10 @@ fn good_head(format: Format, bytes: &[u8; 512]) -> Head
     ensures { result ≡ good_head format bytes.now }
 {
     let shape = shape_of(bytes);
-    if field_u64(bytes, 8) == START_LSN && shape.is_within_limits() {
+    if field_u64(bytes, 8) == START_LSN
+        && shape.is_within_limits()
+        && has_sizes_of(format, &shape)
+    {
         Head::Good(format, shape)
     } else {
         Head::Unformatted
@@ -82,6 +85,7 @@ fn number_of(format: Format) -> u32
     match format {
         Format::One => 1,
         Format::Two => 2,
+        Format::Three => 3,
     }
 }
 
@@ -92,6 +96,7 @@ fn format_of(number: u32) -> Option<Format>
     match number {
         1 => Some(Format::One),
         2 => Some(Format::Two),
+        3 => Some(Format::Three),
         _ => None,
     }
 }

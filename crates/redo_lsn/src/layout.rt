@@ -1,9 +1,9 @@
 // Where the ring of a log stands on its device, and how much of the device it takes.
 ghost use Rattle.std.specs.Prelude.{◌≡◌, ◌≤◌};
 ghost use Rattle.model_base.specs.declared.limits.TheConstants.{MAX_LOG_BLOCKS};
-ghost use Rattle.model_log.specs.{IsLayout, layout_of, log_device_length, round_of, run_layout};
+ghost use Rattle.model_log.specs.{IsLayout, layout_of, log_device_length, round_of, run_format, run_layout};
 
-use model_base::{BLOCK_SIZE, MIN_LOG_BLOCKS, Shape};
+use model_base::{BLOCK_SIZE, MIN_LOG_BLOCKS, SLOTS, Shape};
 use model_log::{Format, HEADER_BLOCKS, HEADER_BYTES, Layout, TAIL_BLOCKS};
 
 /// The layout of a store of this format and shape.
@@ -20,11 +20,22 @@ pub fn layout_of(format: Format, shape: &Shape) -> Layout
             first: HEADER_BLOCKS,
             blocks,
         },
-        Format::Two => Layout {
-            format,
+        Format::Two | Format::Three => Layout {
+            format: Format::Two,
             first: HEADER_BLOCKS + TAIL_BLOCKS,
             blocks: blocks - TAIL_BLOCKS,
         },
+    }
+}
+
+/// The format of a store of this shape as a run has it.
+pub fn run_format(shape: &Shape) -> Format
+    ensures { result ≡ run_format shape.now }
+{
+    if shape.slots == SLOTS {
+        Format::Three
+    } else {
+        Format::Two
     }
 }
 

@@ -6,8 +6,7 @@ use Rattle.model_base.specs.declared.shape.Shape.{Shape}
 use Rattle.model_base.specs.declared.limits.TheConstants.{START_LSN}
 use Rattle.model_device.specs.{sector, settled, synced}
 use Rattle.model_device.specs.Disk.{Disk}
-use Rattle.model_log.specs.{checkpoint_text, fits_checksum, head_of, head_text, log_device_length, read_head, run_layout}
-use Rattle.model_log.specs.declared.head.Format.TheVariants.{Two}
+use Rattle.model_log.specs.{checkpoint_text, fits_checksum, head_of, head_text, log_device_length, read_head, run_layout, run_format}
 use Rattle.model_log.specs.declared.layout.TheConstants.{HEADER_BYTES}
 use Rattle.model_page.specs.{data_device_length}
 use Rattle.model_parts.specs.{IsPut, IsPutting, IsUnsealed, KeepsHead, zero_block}
@@ -205,7 +204,7 @@ checkpoint-there shape old new none has =
 begun-new : (shape : Shape) (bytes : List ℕ) → IsWithinLimits shape → IsBegunLog shape bytes → IsNewLog shape bytes
 begun-new shape bytes limits begun data_bytes pages = formatted-orderly shape bytes data_bytes limits begun pages
 
-headed : (shape : Shape) (content bytes : List ℕ) → log_device_length shape ≤ length content → length bytes ≡ length content → sector 0 bytes ≡ head_text Two shape
+headed : (shape : Shape) (content bytes : List ℕ) → log_device_length shape ≤ length content → length bytes ≡ length content → sector 0 bytes ≡ head_text (run_format shape) shape
     → ((k : ℕ) → k ≢ 0 → sector k bytes ≡ sector k content) → sector 1 content ≡ first_text shape
     → ((k : ℕ) → 3 ≤ k → 512 * k < log_device_length shape → sector k content ≡ zero_block) → IsBegunLog shape bytes
 headed shape content bytes long same_length first others checkpoint blocks = record {
@@ -216,11 +215,11 @@ headed shape content bytes long same_length first others checkpoint blocks = rec
 }
 
 -- while the header is put into the first block
-pub first-comes : (shape : Shape) (old new : Disk) → IsWithinLimits shape → HasFirstCheckpoint shape old → PutsBlock 0 (head_text Two shape) old.reads new → MayBeNewLog shape new
+pub first-comes : (shape : Shape) (old new : Disk) → IsWithinLimits shape → HasFirstCheckpoint shape old → PutsBlock 0 (head_text (run_format shape) shape) old.reads new → MayBeNewLog shape new
 first-comes shape old new limits has puts image fair =
     let none : HasNoBlocks shape old = has.no_blocks in
-    let is : IsPutting 0 (head_text Two shape) old.base image =
-    subst (λ (bytes : List ℕ). IsPutting 0 (head_text Two shape) bytes image) (reads-settled old none.nothing_pending) (puts image fair) in
+    let is : IsPutting 0 (head_text (run_format shape) shape) old.base image =
+    subst (λ (bytes : List ℕ). IsPutting 0 (head_text (run_format shape) shape) bytes image) (reads-settled old none.nothing_pending) (puts image fair) in
     let without : IsUnsealed (sector 0 image) → HasNoHead image = λ broken. record {
       long = omega (arith, is.same_length, none.no_head.long);
       first = broken;
@@ -234,11 +233,11 @@ pub record HasFirstHead (shape : Shape) (disk : Disk) : Type 0 where
   pub nothing_pending : disk ≡ settled disk.base
   pub log : IsBegunLog shape disk.base
 
-pub first-there : (shape : Shape) (old new : Disk) → HasFirstCheckpoint shape old → HasPut 0 (head_text Two shape) old.reads new → HasFirstHead shape new
+pub first-there : (shape : Shape) (old new : Disk) → HasFirstCheckpoint shape old → HasPut 0 (head_text (run_format shape) shape) old.reads new → HasFirstHead shape new
 first-there shape old new has put =
     let none : HasNoBlocks shape old = has.no_blocks in
-    let is : IsPut 0 (head_text Two shape) old.base new.base =
-    subst (λ (bytes : List ℕ). IsPut 0 (head_text Two shape) bytes new.base) (reads-settled old none.nothing_pending) put.put in
+    let is : IsPut 0 (head_text (run_format shape) shape) old.base new.base =
+    subst (λ (bytes : List ℕ). IsPut 0 (head_text (run_format shape) shape) bytes new.base) (reads-settled old none.nothing_pending) put.put in
     record {
       nothing_pending = put.nothing_pending;
       log = headed shape old.base new.base none.long is.same_length is.at is.others has.checkpoint none.blocks;
@@ -254,22 +253,22 @@ second-headed shape content bytes begun same_length others = record {
 }
 
 -- while it is put into the second
-pub second-comes : (shape : Shape) (old new : Disk) → IsWithinLimits shape → HasFirstHead shape old → PutsBlock 2 (head_text Two shape) old.reads new → MayBeNewLog shape new
+pub second-comes : (shape : Shape) (old new : Disk) → IsWithinLimits shape → HasFirstHead shape old → PutsBlock 2 (head_text (run_format shape) shape) old.reads new → MayBeNewLog shape new
 second-comes shape old new limits has puts image fair =
-    let is : IsPutting 2 (head_text Two shape) old.base image =
-    subst (λ (bytes : List ℕ). IsPutting 2 (head_text Two shape) bytes image) (reads-settled old has.nothing_pending) (puts image fair) in
+    let is : IsPutting 2 (head_text (run_format shape) shape) old.base image =
+    subst (λ (bytes : List ℕ). IsPutting 2 (head_text (run_format shape) shape) bytes image) (reads-settled old has.nothing_pending) (puts image fair) in
     inr (begun-new shape image limits (second-headed shape old.base image has.log is.same_length is.others))
 
-either-head : (shape : Shape) (bytes : List ℕ) → sector 0 bytes ≡ head_text Two shape → sector 2 bytes ≡ head_text Two shape
-    → (k : ℕ) → IsHeadPlace k → sector k bytes ≡ head_text Two shape
+either-head : (shape : Shape) (bytes : List ℕ) → sector 0 bytes ≡ head_text (run_format shape) shape → sector 2 bytes ≡ head_text (run_format shape) shape
+    → (k : ℕ) → IsHeadPlace k → sector k bytes ≡ head_text (run_format shape) shape
 either-head shape bytes first second k place =
-    ⊎_elim (λ zero. subst (λ (n : ℕ). sector n bytes ≡ head_text Two shape) (sym zero) first)
-    (λ two. subst (λ (n : ℕ). sector n bytes ≡ head_text Two shape) (sym two) second) place
+    ⊎_elim (λ zero. subst (λ (n : ℕ). sector n bytes ≡ head_text (run_format shape) shape) (sym zero) first)
+    (λ two. subst (λ (n : ℕ). sector n bytes ≡ head_text (run_format shape) shape) (sym two) second) place
 
-pub second-there : (shape : Shape) (old new : Disk) → HasFirstHead shape old → HasPut 2 (head_text Two shape) old.reads new → HasNewLog shape new
+pub second-there : (shape : Shape) (old new : Disk) → HasFirstHead shape old → HasPut 2 (head_text (run_format shape) shape) old.reads new → HasNewLog shape new
 second-there shape old new has put =
-    let is : IsPut 2 (head_text Two shape) old.base new.base =
-    subst (λ (bytes : List ℕ). IsPut 2 (head_text Two shape) bytes new.base) (reads-settled old has.nothing_pending) put.put in
+    let is : IsPut 2 (head_text (run_format shape) shape) old.base new.base =
+    subst (λ (bytes : List ℕ). IsPut 2 (head_text (run_format shape) shape) bytes new.base) (reads-settled old has.nothing_pending) put.put in
     let begun : IsBegunLog shape new.base = second-headed shape old.base new.base has.log is.same_length is.others in
     record {
       nothing_pending = put.nothing_pending;

@@ -1,5 +1,5 @@
 -- Both devices at the exits of opening.
-use Rattle.std.proofs.Common.{◌≡◌, ◌≤◌, ◌<◌, ◌+◌, ◌-◌, ◌⊎◌, ◌∙◌, ℕ, List, length, Option, Some, None, Ok, Err, refl, sym, ap, subst, ⊎_elim, arith}
+use Rattle.std.proofs.Common.{◌≡◌, ◌≤◌, ◌<◌, ◌+◌, ◌-◌, ◌⊎◌, ◌∙◌, ℕ, List, length, Option, Some, None, Ok, Err, refl, sym, ap, subst, ⊎_elim, arith, ◌≢◌}
 use Rattle.std.specs.Prelude.{IfSome, Result}
 use Rattle.model_base.specs.{IsWithinLimits}
 use Rattle.model_base.specs.declared.shape.Shape.{Shape}
@@ -7,7 +7,7 @@ use Rattle.model_device.specs.{sector, settled}
 use Rattle.model_device.specs.Disk.{Disk}
 use Rattle.model_log.specs.{checkpoint_text, layout_of, log_device_length, newest_checkpoint, place_of, read_head}
 use Rattle.model_log.specs.declared.head.Format.{Format}
-use Rattle.model_log.specs.declared.head.Format.TheVariants.{One, Two}
+use Rattle.model_log.specs.declared.head.Format.TheVariants.{One, Two, Three}
 use Rattle.model_log.specs.declared.head.Head.TheVariants.{Good}
 use Rattle.model_log.specs.declared.layout.Layout.{Layout}
 use Rattle.model_store.specs.{IsFairLog, IsOrderly}
@@ -53,10 +53,11 @@ clear-there opened tail layout start old result new is at step =
     subst (λ (n : ℕ). ClearStep (found_layout opened) opened.ckpt n tail old result new) at
     (subst (λ (l : Layout). ClearStep l opened.ckpt start tail old result new) is step)
 
--- the blocks of both formats lie on the device
+-- the blocks of each format lie on the device
 ring-long : (format : Format) (shape : Shape) → IsWithinLimits shape → ring_end (layout_of format shape) ≤ log_device_length shape
 ring-long One shape limits = omega (arith, limits.many_blocks)
 ring-long Two shape limits = omega (arith, limits.many_blocks)
+ring-long Three shape limits = omega (arith, limits.many_blocks)
 
 pub ring-within : (format : Format) (shape : Shape) (layout : Layout) → IsWithinLimits shape → layout ≡ layout_of format shape → ring_end layout ≤ log_device_length shape
 ring-within format shape layout limits is = subst (λ (l : Layout). ring_end l ≤ log_device_length shape) (sym is) (ring-long format shape limits)
@@ -204,6 +205,11 @@ taken-by : (opened : Reading) (format : Format) (n : ℕ) (disk : Disk) → open
 taken-by opened format n disk is same fresh =
     subst (λ (m : ℕ). IsFresh opened.shape (start_of opened) m disk) (same ∙ ap (λ (f : Format). opened.number + numbers_taken f) (sym is)) fresh
 
+one-taken : (format : Format) → format ≢ One → numbers_taken format ≡ 1
+one-taken One other = absurd (other refl)
+one-taken Two other = refl
+one-taken Three other = refl
+
 marked-is_fresh : (opened : Reading) (tail : Option Tail) (log_old data_old : Seen) (log_bytes data_bytes old_log image : List ℕ) → OpensFrom opened tail log_old data_old log_bytes data_bytes
     → IsCleared (found_layout opened) opened.ckpt (start_of opened) tail log_bytes old_log → IsMarked opened.format opened.shape opened.number (start_block opened) old_log image
     → IsFresh opened.shape (start_of opened) (opened.number + numbers_taken opened.format) (settled image)
@@ -211,9 +217,9 @@ marked-is_fresh opened tail log_old data_old log_bytes data_bytes old_log image 
     let next : next_number opened.number ≡ opened.number + 1 = next-is opened log_bytes data_bytes from.orderly in
     let after : next_number (next_number opened.number) ≡ opened.number + 2 = after-is opened log_bytes data_bytes from.orderly in
     ⊎_elim
-    (λ two. taken-by opened Two (opened.number + 1) (settled image) two.0 refl
-    (marked-fresh opened log_bytes data_bytes old_log image tail from.orderly from.found from.alike two.0 cleared
-    (subst (λ (n : ℕ). IsPut (place_of n) (NextText opened n) old_log image) next two.1)))
+    (λ other. taken-by opened opened.format (opened.number + 1) (settled image) refl (ap (λ (n : ℕ). opened.number + n) (sym (one-taken opened.format other.0)))
+    (marked-fresh opened log_bytes data_bytes old_log image tail from.orderly from.found from.alike other.0 cleared
+    (subst (λ (n : ℕ). IsPut (place_of n) (NextText opened n) old_log image) next other.1)))
     (λ one. taken-by opened One (opened.number + 2) (settled image) one.format_is refl
     (migrated-fresh opened log_bytes data_bytes old_log one.marked image tail from.orderly from.found cleared
     (subst (λ (n : ℕ). IsPut (place_of n) (NextText opened n) old_log one.marked) next one.put)
@@ -253,11 +259,8 @@ unmoved-image opened tail log_old data_old log_bytes data_bytes old_log disk fro
     (λ same. subst (IsUnopened opened.format opened.shape opened.number opened.ckpt) (sym same) (not-opened opened tail log_old data_old log_bytes data_bytes old_log from clearing))
     (λ one. record {
       head = head-first disk.base opened.format opened.shape (ap read_head (one.1 ∙ zero) ∙ good);
-      newest = λ two. absurd (one-not_two (sym one.0 ∙ two));
+      newest = λ other. absurd (other one.0);
     }) unmoved
-  where
-    one-not_two : One ≡ Two → ⊥
-    one-not_two is = cc
 
 pub unmoved-marks : (opened : Reading) (tail : Option Tail) (log_old data_old : Seen) (log_bytes data_bytes : List ℕ) (mid : Seen) (error : DevError) (new : Seen)
     → OpensFrom opened tail log_old data_old log_bytes data_bytes → IfSome mid.tells (Cleared opened tail log_bytes)

@@ -5,9 +5,8 @@ use Rattle.model_base.specs.{padded_to}
 use Rattle.model_base.specs.declared.shape.Shape.{Shape}
 use Rattle.model_base.specs.declared.limits.TheConstants.{START_LSN}
 use Rattle.model_device.specs.{IsWithin}
-use Rattle.model_log.specs.{checkpoint_text, head_text, log_device_length, place_in, place_of}
+use Rattle.model_log.specs.{checkpoint_text, head_text, log_device_length, place_in, place_of, run_format}
 use Rattle.model_log.specs.declared.head.Format.{Format}
-use Rattle.model_log.specs.declared.head.Format.TheVariants.{Two}
 use Rattle.model_log.specs.declared.layout.Layout.{Layout}
 use Rattle.model_log.specs.declared.layout.TheConstants.{HEADER_BLOCKS, RING_SIZE}
 use Rattle.model_log.specs.HeadText.{creator, format_number}
@@ -37,7 +36,7 @@ checkpoint-within shape number lsn layout =
     let long : length (checkpoint_text number lsn layout) ≡ 512 = length-checkpoint number lsn layout in
     omega (arith, long, (header-place number).1)
 
-pub head-within : (shape : Shape) (k : ℕ) → k < HEADER_BLOCKS → IsWithin (log_device_length shape) (block_write k (head_text Two shape))
+pub head-within : (shape : Shape) (k : ℕ) → k < HEADER_BLOCKS → IsWithin (log_device_length shape) (block_write k (head_text (run_format shape) shape))
 head-within shape k low =
-    let long : length (head_text Two shape) ≡ 512 = length-head Two shape in
+    let long : length (head_text (run_format shape) shape) ≡ 512 = length-head (run_format shape) shape in
     omega (arith, long, low)

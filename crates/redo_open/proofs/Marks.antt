@@ -1,5 +1,5 @@
 -- The checkpoints of opening.
-use Rattle.std.proofs.Common.{◌≡◌, ◌+◌, ◌*◌, ℕ, inl, inr, List, length, sym, ap, subst, ◌∙◌, arith}
+use Rattle.std.proofs.Common.{◌≡◌, ◌+◌, ◌*◌, ℕ, inl, inr, List, length, sym, ap, subst, ◌∙◌, arith, ◌≢◌}
 use Rattle.std.specs.Prelude.{Result, Ok, Err}
 use Rattle.std.proofs.lemmas.Result.{on_err_weaker, on_ok_weaker}
 use Rattle.model_base.specs.declared.shape.Shape.{Shape}
@@ -7,7 +7,7 @@ use Rattle.model_device.specs.{sector}
 use Rattle.model_device.specs.Disk.{Disk}
 use Rattle.model_log.specs.{log_device_length, place_of}
 use Rattle.model_log.specs.declared.head.Format.{Format}
-use Rattle.model_log.specs.declared.head.Format.TheVariants.{One, Two}
+use Rattle.model_log.specs.declared.head.Format.TheVariants.{One}
 use Rattle.model_parts.specs.{IsPut, next_number}
 use Rattle.model_parts.proofs.Newest.{checkpoint-place}
 use Rattle.redo_disk.specs.Seen.{Seen}
@@ -46,9 +46,9 @@ mark-fails format shape number lsn old error new step =
       cause = step.cause;
     }
 
-pub mark-two : (format : Format) (shape : Shape) (number lsn : ℕ) (old : Seen) (done : Unit {0}) (new : Seen) → format ≡ Two
+pub mark-other : (format : Format) (shape : Shape) (number lsn : ℕ) (old : Seen) (done : Unit {0}) (new : Seen) → format ≢ One
     → PutStep (place_of (next_number number)) (next_text format shape number lsn) old (Ok done) new → MarkStep format shape number lsn old (Ok done) new
-mark-two format shape number lsn old done new two step =
+mark-other format shape number lsn old done new other step =
     let k : ℕ = place_of (next_number number) in
     let text : List ℕ = next_text format shape number lsn in
     record {
@@ -58,7 +58,7 @@ mark-two format shape number lsn old done new two step =
           (λ a b. IsAtRestTo (log_device_length shape) a → HasMarked format shape number lsn a.reads b)
           (λ a b puts rests. (
           let put = puts (place-rests shape (next_number number) a rests) in
-          record { nothing_pending = put.nothing_pending; marked = inl (two, put.put) })) step.ok;
+          record { nothing_pending = put.nothing_pending; marked = inl (other, put.put) })) step.ok;
       unmoved = tt;
       size = step.size;
       cause = step.cause;

@@ -4,8 +4,7 @@ use Rattle.std.specs.Prelude.{Result, Ok, Err}
 use Rattle.model_base.specs.declared.shape.Shape.{Shape}
 use Rattle.model_device.specs.{sector, settled}
 use Rattle.model_device.specs.Disk.{Disk}
-use Rattle.model_log.specs.{checkpoint_text, fits_checksum, head_text, log_device_length, place_of, run_layout}
-use Rattle.model_log.specs.declared.head.Format.TheVariants.{Two}
+use Rattle.model_log.specs.{checkpoint_text, fits_checksum, head_text, log_device_length, place_of, run_layout, run_format}
 use Rattle.model_parts.specs.{IsErased, IsErasing, IsLogSector, IsMigrated, IsMigrating, IsNearlyMigrated, IsPut, IsPutting}
 use Rattle.model_parts.proofs.Newest.{checkpoint-place}
 use Rattle.model_parts.proofs.Unread.{zeros-unsealed}
@@ -176,29 +175,29 @@ next-fails shape number lsn old mid error new long come step =
 
 -- the header, in the second block
 pub second-come : (shape : Shape) (number lsn : ℕ) (old mid : Seen) (done : Unit {0}) (new : Seen) → 2560 ≤ log_device_length shape → Come (IsNextLog shape number lsn) (log_device_length shape) old mid
-    → PutStep 2 (head_text Two shape) mid (Ok done) new → Come (IsNearlyMigrated shape number lsn) (log_device_length shape) old new
+    → PutStep 2 (head_text (run_format shape) shape) mid (Ok done) new → Come (IsNearlyMigrated shape number lsn) (log_device_length shape) old new
 second-come shape number lsn old mid done new long come step =
-    come-put (IsNextLog shape number lsn) (IsNearlyMigrated shape number lsn) (log_device_length shape) 2 (head_text Two shape) old mid done new (omega arith)
+    come-put (IsNextLog shape number lsn) (IsNearlyMigrated shape number lsn) (log_device_length shape) 2 (head_text (run_format shape) shape) old mid done new (omega arith)
     (λ content was now next put. record { erased = next.erased; is_erased = next.is_erased; marked = was; is_marked = next.marked; headed = put }) come step
 
 pub second-fails : (shape : Shape) (number lsn : ℕ) (old mid : Seen) (error : DevError) (new : Seen) → 2560 ≤ log_device_length shape → Come (IsNextLog shape number lsn) (log_device_length shape) old mid
-    → PutStep 2 (head_text Two shape) mid (Err error) new → MigrateStep shape number lsn old (Err error) new
+    → PutStep 2 (head_text (run_format shape) shape) mid (Err error) new → MigrateStep shape number lsn old (Err error) new
 second-fails shape number lsn old mid error new long come step =
-    put-fails (IsNextLog shape number lsn) shape number lsn 2 (head_text Two shape) old mid error new (omega arith)
+    put-fails (IsNextLog shape number lsn) shape number lsn 2 (head_text (run_format shape) shape) old mid error new (omega arith)
     (λ content was image next putting. inr (inr (inl (next.erased, was, next.is_erased, next.marked, putting)))) (next-zero shape number lsn) come step
 
 -- and in the first one
 pub first-ends : (shape : Shape) (number lsn : ℕ) (old mid : Seen) (result : Result (Unit {0}) DevError) (new : Seen) → 2560 ≤ log_device_length shape
-    → Come (IsNearlyMigrated shape number lsn) (log_device_length shape) old mid → PutStep 0 (head_text Two shape) mid result new → MigrateStep shape number lsn old result new
+    → Come (IsNearlyMigrated shape number lsn) (log_device_length shape) old mid → PutStep 0 (head_text (run_format shape) shape) mid result new → MigrateStep shape number lsn old result new
 first-ends shape number lsn old mid (Err error) new long come step =
-    put-fails (IsNearlyMigrated shape number lsn) shape number lsn 0 (head_text Two shape) old mid error new (omega arith)
+    put-fails (IsNearlyMigrated shape number lsn) shape number lsn 0 (head_text (run_format shape) shape) old mid error new (omega arith)
     (λ content was image nearly putting. inr (inr (inr (was, nearly, putting)))) (nearly-zero shape number lsn) come step
 first-ends shape number lsn old mid (Ok done) new long come step =
     let last : Come (IsMigrated shape number lsn) (log_device_length shape) old new =
-    come-put (IsNearlyMigrated shape number lsn) (IsMigrated shape number lsn) (log_device_length shape) 0 (head_text Two shape) old mid done new (omega arith)
+    come-put (IsNearlyMigrated shape number lsn) (IsMigrated shape number lsn) (log_device_length shape) 0 (head_text (run_format shape) shape) old mid done new (omega arith)
     (λ content was now nearly put. record { headed = was; nearly = nearly; first = put }) come step in
     record {
-      keeps = come-puts (IsNearlyMigrated shape number lsn) (IsMigrating shape number lsn) (log_device_length shape) 0 (head_text Two shape) old mid (Ok done) new (omega arith)
+      keeps = come-puts (IsNearlyMigrated shape number lsn) (IsMigrating shape number lsn) (log_device_length shape) 0 (head_text (run_format shape) shape) old mid (Ok done) new (omega arith)
           (λ content was image nearly putting. inr (inr (inr (was, nearly, putting)))) come step;
       ok = told-as old.tells new.tells (λ before after. IsAtRestTo (log_device_length shape) before → HasCome (IsMigrated shape number lsn) before.reads after)
           (λ before after. IsAtRestTo (log_device_length shape) before → HasMigrated shape number lsn before.reads after)

@@ -12,7 +12,7 @@ use Rattle.model_parts.proofs.Keeping.{openable-keeps}
 use Rattle.model_page.specs.declared.content.Content.{Content}
 use Rattle.model_log.specs.declared.group.Whole.{Whole}
 use Rattle.model_log.specs.declared.head.Format.{Format}
-use Rattle.model_log.specs.declared.head.Format.TheVariants.{One, Two}
+use Rattle.model_log.specs.declared.head.Format.TheVariants.{One, Two, Three}
 use Rattle.model_log.specs.declared.layout.Layout.{Layout}
 use Rattle.model_log.proofs.Layouts.{is_layout_of}
 use Rattle.model_store.specs.{IsOrderly}
@@ -157,6 +157,7 @@ number-left opened less = let few : numbers_taken opened.format ≤ 2 = few-take
     few-taken : (format : Format) → numbers_taken format ≤ 2
     few-taken One = omega arith
     few-taken Two = omega arith
+    few-taken Three = omega arith
 
 pub recovered-started : {L D : Type 0} (log_seen : L → Seen) (data_seen : D → Seen) (recovered : Recovered) (start : ℕ) (log_old data_old : Seen) (log : L) (store : Part D)
     (result : OpenResult L D) → IsStartable recovered store start → DevicesStep (reading_of recovered) recovered.tail log_old data_old (Ok tt) (log_seen log) (data_seen store.dev)

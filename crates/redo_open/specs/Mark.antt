@@ -1,11 +1,11 @@
 -- The log device while the checkpoints of opening are put.
-use Rattle.std.specs.Prelude.{ℕ, ◌≡◌, ◌⊎◌, List, Result, OnOk, OnErr}
+use Rattle.std.specs.Prelude.{ℕ, ◌≡◌, ◌≢◌, ◌⊎◌, List, Result, OnOk, OnErr}
 use Rattle.model_base.specs.declared.shape.Shape.{Shape}
 use Rattle.model_device.specs.{sector, settled}
 use Rattle.model_device.specs.Disk.{Disk}
 use Rattle.model_log.specs.{checkpoint_text, layout_of, log_device_length, place_of}
 use Rattle.model_log.specs.declared.head.Format.{Format}
-use Rattle.model_log.specs.declared.head.Format.TheVariants.{One, Two}
+use Rattle.model_log.specs.declared.head.Format.TheVariants.{One}
 use Rattle.model_parts.specs.{IsMigrated, IsMigrating, IsPut, IsPutting, next_number}
 use Rattle.model_store.specs.{IsFairLog}
 use Rattle.redo_disk.specs.{HasCause, OnTold}
@@ -40,7 +40,7 @@ Marks format shape number lsn content disk = (image : List ℕ) → IsFairLog di
 -- what stands in the end
 abbrev pub IsMarked : Format → Shape → ℕ → ℕ → List ℕ → List ℕ → Type 0
 IsMarked format shape number lsn content image =
-    ((format ≡ Two) × IsPut (place_of (next_number number)) (next_text format shape number lsn) content image)
+    ((format ≢ One) × IsPut (place_of (next_number number)) (next_text format shape number lsn) content image)
     ⊎ IsMigratedNext format shape number lsn content image
 
 -- nothing is pending, and it stands

@@ -63,7 +63,7 @@ fn clear_tails<L: Sectors>(log: &mut L, layout: &Layout, tail: Option<Tail>) -> 
 {
     match layout.format {
         Format::One => Ok(()),
-        Format::Two => clear_both_tails(log, tail),
+        Format::Two | Format::Three => clear_both_tails(log, tail),
     }
 }
 

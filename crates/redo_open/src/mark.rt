@@ -35,6 +35,6 @@ pub(crate) fn mark<L: Sectors>(
     put_checkpoint(log, &layout_of(format, shape), next, lsn)?;
     match format {
         Format::One => migrate(log, shape, next.wrapping_add(1), lsn),
-        Format::Two => Ok(()),
+        Format::Two | Format::Three => Ok(()),
     }
 }

@@ -29,7 +29,7 @@ fn numbers_taken(format: Format) -> u64
 {
     match format {
         Format::One => 2,
-        Format::Two => 1,
+        Format::Two | Format::Three => 1,
     }
 }
 

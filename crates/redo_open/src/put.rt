@@ -1,16 +1,16 @@
 // Putting one block of the log device, so that it stays.
 ghost use Rattle.std.specs.Prelude.{◌≡◌, ◌≤◌, ◌<◌, ◌^◌};
 ghost use Rattle.model_base.specs.declared.limits.TheConstants.{START_LSN};
-ghost use Rattle.model_log.specs.{checkpoint_text, head_text, IsLayout, place_of};
-ghost use Rattle.model_log.specs.declared.head.Format.TheVariants.{Two};
+ghost use Rattle.model_log.specs.{checkpoint_text, head_text, IsLayout, place_of, run_format};
 ghost use Rattle.model_log.specs.declared.layout.TheConstants.{HEADER_BYTES};
 ghost use Rattle.redo_disk.specs.{error_of, MakesCalls, put_requests, Serve};
 ghost use Rattle.redo_open.specs.Put.{block_write, end_of_block, PutStep};
 
 use model_base::{BLOCK_SIZE, Shape};
-use model_log::{Format, Layout};
+use model_log::Layout;
 use redo_disk::{DevError, Sectors, write_and_sync};
 use redo_header::{fill_ckpt, fill_head, place_of};
+use redo_lsn::run_format;
 
 /// Writes these bytes into the block of this number, and makes that stay.
 pub(crate) fn put_block<L: Sectors>(log: &mut L, k: u32, bytes: &[u8; 512]) -> Result<(), DevError>
@@ -41,13 +41,13 @@ pub(crate) fn put_checkpoint<L: Sectors>(
     put_block(log, place_of(number), &block)
 }
 
-/// Puts the header of a store of format 2 into a header block.
+/// Puts the header of a store of this shape, by the format of its runs, into a header block.
 pub(crate) fn put_head<L: Sectors>(log: &mut L, k: u32, shape: &Shape) -> Result<(), DevError>
     requires { end_of_block k ≤ (L.seen log.old).size }
-    ensures step { PutStep k (head_text Two shape.now) (L.seen log.old) result (L.seen log.new) }
-    ensures calls { MakesCalls L.gives log.old log.new (Serve (put_requests (block_write k (head_text Two shape.now))) (error_of result)) }
+    ensures step { PutStep k (head_text (run_format shape.now) shape.now) (L.seen log.old) result (L.seen log.new) }
+    ensures calls { MakesCalls L.gives log.old log.new (Serve (put_requests (block_write k (head_text (run_format shape.now) shape.now))) (error_of result)) }
 {
     let mut block = [0; 512];
-    fill_head(&mut block, Format::Two, shape);
+    fill_head(&mut block, run_format(shape), shape);
     put_block(log, k, &block)
 }

@@ -1,14 +1,15 @@
 -- Blocks that are taken of a source one after another.
-use Rattle.std.proofs.Common.{◌≡◌, ℕ, ◌+◌, ◌-◌, ◌<◌, ◌≤◌, inl, inr, true, false, cond, ltb, List, [], ◌∷◌, ◌++◌, length, drop, min, Option, Some, None, arith, refl, sym, ap, ap₂, subst, ◌∙◌}
+use Rattle.std.proofs.Common.{◌≡◌, ℕ, ◌+◌, ◌-◌, ◌<◌, ◌≤◌, inl, inr, true, false, cond, ltb, List, [], ◌∷◌, ◌++◌, length, drop, min, Option, Some, None, arith, refl, sym, ap, ap₂, subst, ◌∙◌, ◌≢◌}
 use Rattle.std.specs.List.{slice_get}
 use Rattle.std.proofs.lemmas.List.{length_push, append-nil, length-take}
 use Rattle.model_base.specs.declared.limits.TheConstants.{BLOCK_SIZE, LSN_LIMIT}
 use Rattle.model_log.specs.{data_of, header_block, is_full, log_block, lsn_at, place_in, read_block, sector_at}
 use Rattle.model_log.specs.declared.block.BlockView.{BlockView}
 use Rattle.model_log.specs.declared.head.Format.{Format}
-use Rattle.model_log.specs.declared.head.Format.TheVariants.{One, Two}
+use Rattle.model_log.specs.declared.head.Format.TheVariants.{One, Two, Three}
 use Rattle.model_log.specs.declared.layout.Layout.{Layout}
 use Rattle.model_log.specs.declared.layout.TheConstants.{BLOCK_DATA, HEADER_BYTES}
+use Rattle.model_log.proofs.Formats.{two-not_one}
 use Rattle.model_store.specs.{bytes_of, joined, Source, Taken, taken, taken_among, taken_from, view_at}
 use Rattle.std.specs.Option.{option_map}
 use Rattle.model_store.proofs.Places.{push_place, place_push}
@@ -23,7 +24,7 @@ use Rattle.redo_recover.specs.declared.piece.Piece.{Piece}
 use Rattle.redo_recover.specs.declared.taking.Stand.{Stand}
 use Rattle.redo_recover.specs.declared.taking.TheConstants.{TAILS}
 use Rattle.redo_recover.proofs.Contents.{content-both}
-use Rattle.redo_recover.proofs.Standing.{at-takes}
+use Rattle.redo_recover.proofs.Standing.{at-takes, three-not_one}
 use Rattle.redo_disk.specs.{part}
 use Rattle.redo_recover.proofs.Pieces.{piece-sector}
 use Rattle.redo_recover.proofs.Starting.{sector-part}
@@ -164,19 +165,24 @@ tails-part tails image is = record {
   five = ap five_of is ∙ sector-part image HEADER_BYTES TAILS BLOCK_SIZE (omega arith);
 }
 
-among-image : (format : Format) (lsn : ℕ) (place place_in_image tails image : List ℕ) → place ≡ place_in_image → (format ≡ Two → AreTails tails image)
+among-image : (format : Format) (lsn : ℕ) (place place_in_image tails image : List ℕ) → place ≡ place_in_image → (format ≢ One → AreTails tails image)
     → taken_among format lsn place_in_image (header_block 4 image) (header_block 5 image) ≡ taken_among format lsn place (four_of tails) (five_of tails)
 among-image One lsn place place_in_image tails image is are = ap (λ b. taken_from b (read_block lsn b)) (sym is)
 among-image Two lsn place place_in_image tails image is are =
-    let tails_are : AreTails tails image = are refl in
+    let tails_are : AreTails tails image = are two-not_one in
     ap (λ b. taken_among Two lsn b (header_block 4 image) (header_block 5 image)) (sym is)
     ∙ ap (λ b. taken_among Two lsn place b (header_block 5 image)) (sym tails_are.four)
     ∙ ap (λ b. taken_among Two lsn place (four_of tails) b) (sym tails_are.five)
+among-image Three lsn place place_in_image tails image is are =
+    let tails_are : AreTails tails image = are three-not_one in
+    ap (λ b. taken_among Three lsn b (header_block 4 image) (header_block 5 image)) (sym is)
+    ∙ ap (λ b. taken_among Three lsn place b (header_block 5 image)) (sym tails_are.four)
+    ∙ ap (λ b. taken_among Three lsn place (four_of tails) b) (sym tails_are.five)
 
 -- what the scan takes at an lsn, of the bytes in the place of its block and of the tail blocks
 pub record IsTakenAt (layout : Layout) (ckpt count : ℕ) (found : Option (Stand × BlockView)) (place tails image : List ℕ) : Type 0 where
   pub place_is : place ≡ log_block layout (lsn_at ckpt count) image
-  pub tails_are : layout.format ≡ Two → AreTails tails image
+  pub tails_are : layout.format ≢ One → AreTails tails image
   pub found_is : found ≡ found_at layout.format (lsn_at ckpt count) place (four_of tails) (five_of tails)
   pub takes : taken layout image (lsn_at ckpt count) ≡ block_at place tails found
 
@@ -192,7 +198,7 @@ pub taken-at : (layout : Layout) (ckpt count : ℕ) (piece : Piece) (at : ℕ) (
 taken-at layout ckpt count piece at place tails found image has at_is place_is found_is of =
     let lsn : ℕ = lsn_at ckpt count in
     let same : place ≡ log_block layout lsn image = block-piece layout image piece lsn at place of.piece_of has at_is place_is in
-    let tails_are : layout.format ≡ Two → AreTails tails image = λ two. tails-part tails image (of.tails_of two) in
+    let tails_are : layout.format ≢ One → AreTails tails image = λ two. tails-part tails image (of.tails_of two) in
     record {
       place_is = same;
       tails_are = tails_are;

@@ -1,13 +1,14 @@
 -- What is known of a block that is taken, by where it stands.
-use Rattle.std.proofs.Common.{◌≡◌, ◌≤◌, ◌&&◌, ℕ, Bool, true, false, cond, ltb, List, Option, Some, None, refl, ap, subst, ◌∙◌, arith}
+use Rattle.std.proofs.Common.{◌≡◌, ◌≤◌, ◌&&◌, ℕ, Bool, true, false, cond, ltb, List, Option, Some, None, refl, ap, subst, ◌∙◌, arith, ◌≢◌}
 use Rattle.std.specs.Prelude.{IfSome}
 use Rattle.std.proofs.lemmas.Bool.Decides.{nat_tests}
 use Rattle.model_base.specs.declared.limits.TheConstants.{BLOCK_SIZE, LSN_LIMIT}
 use Rattle.model_log.specs.{block_view, fits_checksum, fits_number, is_block_at, is_first, is_length, read_block}
 use Rattle.model_log.specs.declared.block.BlockView.{BlockView}
 use Rattle.model_log.specs.declared.head.Format.{Format}
-use Rattle.model_log.specs.declared.head.Format.TheVariants.{One, Two}
+use Rattle.model_log.specs.declared.head.Format.TheVariants.{One, Two, Three}
 use Rattle.model_log.specs.declared.layout.TheConstants.{BLOCK_HEADER}
+use Rattle.model_log.proofs.Formats.{two-not_one}
 use Rattle.model_store.specs.{longer, in_place_or, read_full, read_tail, Taken, taken_among, taken_from}
 use Rattle.model_store.proofs.Ending.{first-place}
 use Rattle.model_store.proofs.Taking.{from-full, from-tail}
@@ -46,6 +47,9 @@ among-takes One lsn place tails = alone-takes place tails (read_block lsn place)
 among-takes Two lsn place tails =
     in_place-takes place tails (read_full lsn place) (chosen (read_tail lsn (four_of tails)) (read_tail lsn (five_of tails)))
     ∙ ap (in_place_or place (read_full lsn place)) (chosen-takes place tails (read_tail lsn (four_of tails)) (read_tail lsn (five_of tails)))
+among-takes Three lsn place tails =
+    in_place-takes place tails (read_full lsn place) (chosen (read_tail lsn (four_of tails)) (read_tail lsn (five_of tails)))
+    ∙ ap (in_place_or place (read_full lsn place)) (chosen-takes place tails (read_tail lsn (four_of tails)) (read_tail lsn (five_of tails)))
 
 when-takes : (test : Bool) (place tails : List ℕ) (found : Option (Stand × BlockView)) (among : Option Taken)
     → block_at place tails found ≡ among → block_at place tails (cond test found None) ≡ cond test among None
@@ -59,44 +63,48 @@ at-takes format lsn place tails =
     when-takes (ltb lsn LSN_LIMIT) place tails (found_among format lsn place (four_of tails) (five_of tails)) (taken_among format lsn place (four_of tails) (five_of tails))
     (among-takes format lsn place tails)
 
--- WHERE IT STANDS. In format 2 a block in its place is full, and one in a tail is taken only where none is read in the place.
+pub three-not_one : Three ≢ One
+three-not_one is = absurd cc
+
+-- WHERE IT STANDS. In formats 2 and 3 a block in its place is full, and one in a tail is taken only where none is read in the place.
 abbrev pub IsAt : Format → ℕ → List ℕ → List ℕ → List ℕ → BlockView → Stand → Type 0
 IsAt format lsn place four five view Place =
-    (read_block lsn place ≡ Some view) × (format ≡ Two → read_full lsn place ≡ Some view)
+    (read_block lsn place ≡ Some view) × (format ≢ One → read_full lsn place ≡ Some view)
 IsAt format lsn place four five view Four =
-    (format ≡ Two) × (read_full lsn place ≡ None) × (read_tail lsn four ≡ Some view)
+    (format ≢ One) × (read_full lsn place ≡ None) × (read_tail lsn four ≡ Some view)
 IsAt format lsn place four five view Five =
-    (format ≡ Two) × (read_full lsn place ≡ None) × (read_tail lsn five ≡ Some view)
+    (format ≢ One) × (read_full lsn place ≡ None) × (read_tail lsn five ≡ Some view)
 
 -- what is found is so
 abbrev AreAt : Format → ℕ → List ℕ → List ℕ → List ℕ → Option (Stand × BlockView) → Type 0
 AreAt format lsn place four five found = IfSome found (λ one. IsAt format lsn place four five one.1 one.0)
 
-chosen-among : (test : Bool) (lsn : ℕ) (place four five : List ℕ) (first second : BlockView) → read_full lsn place ≡ None → read_tail lsn four ≡ Some first
-    → read_tail lsn five ≡ Some second → AreAt Two lsn place four five (cond test (Some (Five, second)) (Some (Four, first)))
-chosen-among true lsn place four five first second none one two = (refl, none, two)
-chosen-among false lsn place four five first second none one two = (refl, none, one)
+chosen-among : (format : Format) (test : Bool) (lsn : ℕ) (place four five : List ℕ) (first second : BlockView) → format ≢ One → read_full lsn place ≡ None
+    → read_tail lsn four ≡ Some first → read_tail lsn five ≡ Some second → AreAt format lsn place four five (cond test (Some (Five, second)) (Some (Four, first)))
+chosen-among format true lsn place four five first second other none one two = (other, none, two)
+chosen-among format false lsn place four five first second other none one two = (other, none, one)
 
-chosen-at : (lsn : ℕ) (place four five : List ℕ) (first second : Option BlockView) → read_full lsn place ≡ None → read_tail lsn four ≡ first
-    → read_tail lsn five ≡ second → AreAt Two lsn place four five (chosen first second)
-chosen-at lsn place four five None None none one two = tt
-chosen-at lsn place four five None (Some second) none one two = (refl, none, two)
-chosen-at lsn place four five (Some first) None none one two = (refl, none, one)
-chosen-at lsn place four five (Some first) (Some second) none one two =
-    chosen-among (ltb first.length second.length) lsn place four five first second none one two
+chosen-at : (format : Format) (lsn : ℕ) (place four five : List ℕ) (first second : Option BlockView) → format ≢ One → read_full lsn place ≡ None
+    → read_tail lsn four ≡ first → read_tail lsn five ≡ second → AreAt format lsn place four five (chosen first second)
+chosen-at format lsn place four five None None other none one two = tt
+chosen-at format lsn place four five None (Some second) other none one two = (other, none, two)
+chosen-at format lsn place four five (Some first) None other none one two = (other, none, one)
+chosen-at format lsn place four five (Some first) (Some second) other none one two =
+    chosen-among format (ltb first.length second.length) lsn place four five first second other none one two
 
-full-at : (lsn : ℕ) (place four five : List ℕ) (full : Option BlockView) → read_full lsn place ≡ full
-    → AreAt Two lsn place four five (in_place full (chosen (read_tail lsn four) (read_tail lsn five)))
-full-at lsn place four five None is = chosen-at lsn place four five (read_tail lsn four) (read_tail lsn five) is refl refl
-full-at lsn place four five (Some view) is = ((from-full (read_block lsn place) view is).0, λ two. is)
+full-at : (format : Format) (lsn : ℕ) (place four five : List ℕ) (full : Option BlockView) → format ≢ One → read_full lsn place ≡ full
+    → AreAt format lsn place four five (in_place full (chosen (read_tail lsn four) (read_tail lsn five)))
+full-at format lsn place four five None other is = chosen-at format lsn place four five (read_tail lsn four) (read_tail lsn five) other is refl refl
+full-at format lsn place four five (Some view) other is = ((from-full (read_block lsn place) view is).0, λ not_one. is)
 
 alone-at : (lsn : ℕ) (place four five : List ℕ) (read : Option BlockView) → read_block lsn place ≡ read → AreAt One lsn place four five (in_place read None)
 alone-at lsn place four five None is = tt
-alone-at lsn place four five (Some view) is = (is, λ two. absurd cc)
+alone-at lsn place four five (Some view) is = (is, λ other. absurd (other refl))
 
 among-at : (format : Format) (lsn : ℕ) (place four five : List ℕ) → AreAt format lsn place four five (found_among format lsn place four five)
 among-at One lsn place four five = alone-at lsn place four five (read_block lsn place) refl
-among-at Two lsn place four five = full-at lsn place four five (read_full lsn place) refl
+among-at Two lsn place four five = full-at Two lsn place four five (read_full lsn place) two-not_one refl
+among-at Three lsn place four five = full-at Three lsn place four five (read_full lsn place) three-not_one refl
 
 when-some : (test : Bool) (found : Option (Stand × BlockView)) (one : Stand × BlockView) → cond test found None ≡ Some one → found ≡ Some one
 when-some true found one is = is

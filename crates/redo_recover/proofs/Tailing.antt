@@ -1,11 +1,11 @@
 -- Where the blocks stand that the scan took: each of them in its place, but the last may stand in a tail block.
-use Rattle.std.proofs.Common.{◌≡◌, ℕ, suc, ◌+◌, ◌∙◌, inl, inr, false, true, List, [], ◌∷◌, ◌++◌, length, Some, None, refl, sym, ap, subst, ⊎_elim, arith}
+use Rattle.std.proofs.Common.{◌≡◌, ℕ, suc, ◌+◌, ◌∙◌, inl, inr, false, true, List, [], ◌∷◌, ◌++◌, length, Some, None, refl, sym, ap, subst, ⊎_elim, arith, ◌≢◌}
 use Rattle.std.proofs.lemmas.Bool.{cases_lt}
 use Rattle.std.proofs.lemmas.List.{length_push}
 use Rattle.model_log.specs.{is_full, log_block, lsn_at, read_block}
 use Rattle.model_log.specs.declared.block.BlockView.{BlockView}
 use Rattle.model_log.specs.declared.head.Format.{Format}
-use Rattle.model_log.specs.declared.head.Format.TheVariants.{Two}
+use Rattle.model_log.specs.declared.head.Format.TheVariants.{One}
 use Rattle.model_log.specs.declared.layout.Layout.{Layout}
 use Rattle.model_store.specs.{AreFoundIn, AreInPlace, read_full, read_tail, taken_from}
 use Rattle.model_store.proofs.Taking.{from-full, from-tail}
@@ -18,7 +18,7 @@ use Rattle.redo_recover.proofs.Standing.{IsAt, stands-at}
 
 -- a full block stands in its place
 full-read : (format : Format) (lsn : ℕ) (place four five : List ℕ) (stand : Stand) (view : BlockView) → IsAt format lsn place four five view stand
-    → is_full view ≡ true → format ≡ Two → read_full lsn place ≡ Some view
+    → is_full view ≡ true → format ≢ One → read_full lsn place ≡ Some view
 full-read format lsn place four five Place view is full two = is.1 two
 full-read format lsn place four five Four view is full two = let no : is_full view ≡ false = (from-tail lsn (read_block lsn four) view is.2).1 in absurd cc
 full-read format lsn place four five Five view is full two = let no : is_full view ≡ false = (from-tail lsn (read_block lsn five) view is.2).1 in absurd cc

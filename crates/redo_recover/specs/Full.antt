@@ -1,8 +1,8 @@
 -- Full blocks of a log, one after another.
-use Rattle.std.specs.Prelude.{ℕ, ◌≡◌, true, List, length, slice_get, Some}
+use Rattle.std.specs.Prelude.{ℕ, ◌≡◌, ◌≢◌, true, List, length, slice_get, Some}
 use Rattle.model_log.specs.{is_full, lsn_at}
 use Rattle.model_log.specs.declared.block.BlockView.{BlockView}
-use Rattle.model_log.specs.declared.head.Format.TheVariants.{Two}
+use Rattle.model_log.specs.declared.head.Format.TheVariants.{One}
 use Rattle.model_log.specs.declared.layout.Layout.{Layout}
 use Rattle.model_store.specs.{AreInPlace, joined, Source, taken, view_at}
 use Rattle.redo_recover.specs.Blocks.{AreBounded}
@@ -18,11 +18,11 @@ pub record AreBlocksSoFar (ckpt : ℕ) (views : List BlockView) (bytes : List �
   pub full : (i : ℕ) (view : BlockView) → slice_get views i ≡ Some view → is_full view ≡ true
   pub bytes_are : bytes ≡ joined source ckpt views
 
--- in format 2 so many blocks stand in their places
+-- in formats 2 and 3 so many blocks stand in their places
 abbrev pub AreStanding : Layout → ℕ → ℕ → List ℕ → Type 0
-AreStanding layout ckpt count image = layout.format ≡ Two → AreInPlace layout image ckpt count
+AreStanding layout ckpt count image = layout.format ≢ One → AreInPlace layout image ckpt count
 
--- the blocks are those of the log's content, and in format 2 stand in their places
+-- the blocks are those of the log's content, and in formats 2 and 3 stand in their places
 pub record AreFullIn (layout : Layout) (full : FullBlocks) (image : List ℕ) : Type 0 where
   pub so_far : AreBlocksSoFar full.lsn full.views.items full.joined.items (length full.views.items) (taken layout image)
   pub standing : AreStanding layout full.lsn (length full.views.items) image

@@ -1,10 +1,10 @@
 -- Which block is taken at an lsn, and where it stands: in its place, or in one of the two tail blocks.
-use Rattle.std.specs.Prelude.{ℕ, ◌≡◌, ◌+◌, nat_lt, if◌then◌else◌, List, Option, Some, None}
+use Rattle.std.specs.Prelude.{ℕ, ◌≡◌, ◌≢◌, ◌+◌, nat_lt, if◌then◌else◌, List, Option, Some, None}
 use Rattle.model_base.specs.declared.limits.TheConstants.{BLOCK_SIZE, LSN_LIMIT}
 use Rattle.model_log.specs.{read_block, sector_at}
 use Rattle.model_log.specs.declared.block.BlockView.{BlockView}
 use Rattle.model_log.specs.declared.head.Format.{Format}
-use Rattle.model_log.specs.declared.head.Format.TheVariants.{One, Two}
+use Rattle.model_log.specs.declared.head.Format.TheVariants.{One, Two, Three}
 use Rattle.model_log.specs.declared.layout.TheConstants.{HEADER_BLOCKS, HEADER_BYTES}
 use Rattle.model_store.specs.{read_full, read_tail, Taken, taken_from}
 use Rattle.model_store.specs.declared.tail.Tail.{Tail}
@@ -20,9 +20,9 @@ four_of tails = sector_at 0 tails
 abbrev pub five_of : List ℕ → List ℕ
 five_of tails = sector_at BLOCK_SIZE tails
 
--- in format 2 these are the bytes of the two tail blocks
+-- in formats 2 and 3 these are the bytes of the two tail blocks
 abbrev pub AreTailsOf : Format → List ℕ → List ℕ → Type 0
-AreTailsOf format tails content = format ≡ Two → tails ≡ part content HEADER_BYTES TAILS
+AreTailsOf format tails content = format ≢ One → tails ≡ part content HEADER_BYTES TAILS
 
 -- a block that is read in its place
 abbrev pub in_place : Option BlockView → Option (Stand × BlockView) → Option (Stand × BlockView)
@@ -40,6 +40,7 @@ chosen (Some first) (Some second) = if nat_lt first.length second.length then So
 abbrev pub found_among : Format → ℕ → List ℕ → List ℕ → List ℕ → Option (Stand × BlockView)
 found_among One lsn place four five = in_place (read_block lsn place) None
 found_among Two lsn place four five = in_place (read_full lsn place) (chosen (read_tail lsn four) (read_tail lsn five))
+found_among Three lsn place four five = in_place (read_full lsn place) (chosen (read_tail lsn four) (read_tail lsn five))
 
 abbrev pub found_at : Format → ℕ → List ℕ → List ℕ → List ℕ → Option (Stand × BlockView)
 found_at format lsn place four five = if nat_lt lsn LSN_LIMIT then found_among format lsn place four five else None

@@ -59,7 +59,7 @@ fn read_tails<L: Sectors>(log: &mut L, format: Format) -> Result<[u8; TAILS], De
     let mut tails = [0; TAILS];
     match format {
         Format::One => {}
-        Format::Two => log.read(HEADER_BYTES, &mut tails)?,
+        Format::Two | Format::Three => log.read(HEADER_BYTES, &mut tails)?,
     }
     Ok(tails)
 }

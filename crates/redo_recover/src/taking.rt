@@ -1,5 +1,5 @@
-// Which block the scan takes at an lsn. In format 1 it is the one in its place, if it fits. In format 2 it is the one in
-// its place, if it fits and is full; else of the tail blocks that fit the one with the greater length.
+// Which block the scan takes at an lsn. In format 1 it is the one in its place, if it fits. In formats 2 and 3 it is
+// the one in its place, if it fits and is full; else of the tail blocks that fit the one with the greater length.
 ghost use Rattle.std.specs.Prelude.{◌≡◌, ◌≤◌, ◌<◌, ◌^◌, IfSome};
 ghost use Rattle.model_log.specs.{cause_at, is_full, misfit_of};
 ghost use Rattle.model_log.specs.declared.layout.TheConstants.{BLOCK_HEADER};
@@ -94,12 +94,14 @@ fn take_among(
     let found = read(place, lsn);
     let in_place = match format {
         Format::One => found,
-        Format::Two => if_full(found),
+        Format::Two | Format::Three => if_full(found),
     };
     match (in_place, format) {
         (Some(view), _) => Some((Stand::Place, view)),
         (None, Format::One) => None,
-        (None, Format::Two) => longer(if_tail(lsn, read(four, lsn)), if_tail(lsn, read(five, lsn))),
+        (None, Format::Two | Format::Three) => {
+            longer(if_tail(lsn, read(four, lsn)), if_tail(lsn, read(five, lsn)))
+        }
     }
 }
 

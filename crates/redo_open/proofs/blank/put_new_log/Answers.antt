@@ -4,8 +4,7 @@ use Rattle.std.proofs.lemmas.Result.{err_from_is_err_and, on_ok_weaker}
 use Rattle.model_base.specs.declared.limits.TheConstants.{START_LSN}
 use Rattle.model_base.specs.declared.shape.Shape.{Shape}
 use Rattle.model_device.specs.Disk.{Disk}
-use Rattle.model_log.specs.{checkpoint_text, head_text, run_layout}
-use Rattle.model_log.specs.declared.head.Format.TheVariants.{Two}
+use Rattle.model_log.specs.{checkpoint_text, head_text, run_layout, run_format}
 use Rattle.model_log.specs.declared.layout.Layout.{Layout}
 use Rattle.redo_disk.proofs.Told.{OnTold-then, told-as}
 use Rattle.redo_open.specs.Blank.{HasNewLog, HasNoBlocks, MayBeNewLog}
@@ -41,7 +40,7 @@ returns-in_err-put_head-clause-keeps g c =
     let shape = c.args.shape.now in
     let layout = c.run_layout.result in
     OnTold-then _ _ _ (λ old new. IsAtRestTo 1024 old → HasPut 1 (checkpoint_text 0 START_LSN layout) old.reads new)
-    (λ old new. IsAtRestTo 512 old → PutsBlock 0 (head_text Two shape) old.reads new) (Keeps shape)
+    (λ old new. IsAtRestTo 512 old → PutsBlock 0 (head_text (run_format shape) shape) old.reads new) (Keeps shape)
     (λ a b d has puts none. (
     let first : HasFirstCheckpoint shape b = there shape layout a b c.run_layout.ensures.is none has in
     first-comes shape b d c.requires.limits first (puts (checkpoint-to shape 512 b (omega arith) first))))
@@ -52,12 +51,12 @@ returns-clause-keeps g c =
     let shape = c.args.shape.now in
     let layout = c.run_layout.result in
     let begun = OnTold-then _ _ _ (λ old new. IsAtRestTo 1024 old → HasPut 1 (checkpoint_text 0 START_LSN layout) old.reads new)
-    (λ old new. IsAtRestTo 512 old → HasPut 0 (head_text Two shape) old.reads new) (λ old new. HasNoBlocks shape old → HasFirstHead shape new)
+    (λ old new. IsAtRestTo 512 old → HasPut 0 (head_text (run_format shape) shape) old.reads new) (λ old new. HasNoBlocks shape old → HasFirstHead shape new)
     (λ a b d has put none. (
     let first : HasFirstCheckpoint shape b = there shape layout a b c.run_layout.ensures.is none has in
     first-there shape b d first (put (checkpoint-to shape 512 b (omega arith) first))))
     c.in_ok-put_checkpoint.ensures.step.ok c.in_ok-put_head.ensures.step.ok in
-    OnTold-then _ _ _ (λ old new. HasNoBlocks shape old → HasFirstHead shape new) (λ old new. IsAtRestTo 1536 old → PutsBlock 2 (head_text Two shape) old.reads new) (Keeps shape)
+    OnTold-then _ _ _ (λ old new. HasNoBlocks shape old → HasFirstHead shape new) (λ old new. IsAtRestTo 1536 old → PutsBlock 2 (head_text (run_format shape) shape) old.reads new) (Keeps shape)
     (λ a b d has puts none. second-comes shape b d c.requires.limits (has none)
     (puts (first-to shape 1536 b (omega (arith, c.requires.limits.many_blocks)) (has none))))
     begun c.put_head-2.ensures.step.keeps
@@ -67,13 +66,13 @@ returns-clause-ok g c =
     let shape = c.args.shape.now in
     let layout = c.run_layout.result in
     let begun = OnTold-then _ _ _ (λ old new. IsAtRestTo 1024 old → HasPut 1 (checkpoint_text 0 START_LSN layout) old.reads new)
-    (λ old new. IsAtRestTo 512 old → HasPut 0 (head_text Two shape) old.reads new) (λ old new. HasNoBlocks shape old → HasFirstHead shape new)
+    (λ old new. IsAtRestTo 512 old → HasPut 0 (head_text (run_format shape) shape) old.reads new) (λ old new. HasNoBlocks shape old → HasFirstHead shape new)
     (λ a b d has put none. (
     let first : HasFirstCheckpoint shape b = there shape layout a b c.run_layout.ensures.is none has in
     first-there shape b d first (put (checkpoint-to shape 512 b (omega arith) first))))
     c.in_ok-put_checkpoint.ensures.step.ok c.in_ok-put_head.ensures.step.ok in
     on_ok_weaker c.put_head-2.result
-    (OnTold-then _ _ _ (λ old new. HasNoBlocks shape old → HasFirstHead shape new) (λ old new. IsAtRestTo 1536 old → HasPut 2 (head_text Two shape) old.reads new)
+    (OnTold-then _ _ _ (λ old new. HasNoBlocks shape old → HasFirstHead shape new) (λ old new. IsAtRestTo 1536 old → HasPut 2 (head_text (run_format shape) shape) old.reads new)
     (λ old new. HasNoBlocks shape old → HasNewLog shape new)
     (λ a b d has put none. second-there shape b d (has none) (put (first-to shape 1536 b (omega (arith, c.requires.limits.many_blocks)) (has none)))) begun)
     c.put_head-2.ensures.step.ok

@@ -1,6 +1,5 @@
--- In format 2 both tail blocks are cleared, and in format 1 there are none.
-use Rattle.std.proofs.Common.{◌≡◌, sym, ◌∙◌, arith}
-use Rattle.model_log.specs.declared.head.Format.TheVariants.{One, Two}
+-- In formats 2 and 3 both tail blocks are cleared, and in format 1 there are none.
+use Rattle.std.proofs.Common.{arith}
 use Rattle.model_parts.specs.{IsStaleTail}
 use Rattle.redo_open.specs.Clear.{IsStale, ring_end}
 use Rattle.redo_open.proofs.Puts.{put_nothing, put_weaker}
@@ -10,7 +9,7 @@ use Rattle.redo_open.proofs.clear.clear_tails.Goals as goal
 pub returns-in-One-clause-step : goal.returns-in-One-clause-step
 returns-in-One-clause-step g c =
     erase_nothing (IsStaleTail c.args.layout.now c.args.tail) (ring_end c.args.layout.now) (g.L.Sectors.seen c.args.log.now) tt
-    (λ k is. (let both : One ≡ Two = sym c.in-One.is ∙ is.format in absurd cc))
+    (λ k is. absurd (is.format c.in-One.is))
 
 pub returns-in-One-clause-calls : goal.returns-in-One-clause-calls
 returns-in-One-clause-calls g c = put_nothing g.L.Sectors.gives c.args.log.now
