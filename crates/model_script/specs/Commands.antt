@@ -3,7 +3,8 @@
 use Rattle.std.specs.Prelude.{ℕ, ◌^◌, ◌-◌, ◌&&◌, ◌||◌, nat_le, if◌then◌else◌, Bool, true, false, not, List, [], ◌∷◌, codes, find, Option, Some, None, option_map, option_and_then, unwrap_or}
 use Rattle.std.specs.List.{list_all, list_any}
 use Rattle.std.specs.Str.{bytes_eq}
-use Rattle.model_base.specs.declared.limits.TheConstants.{DEFAULT_LOG_BLOCKS, DEFAULT_PAGES, DEFAULT_SPACE, MAX_LOG_BLOCKS, MAX_PAGES, MIN_LOG_BLOCKS}
+use Rattle.model_base.specs.{is_page_size}
+use Rattle.model_base.specs.declared.limits.TheConstants.{DEFAULT_LOG_BLOCKS, DEFAULT_PAGES, DEFAULT_SPACE, MAX_LOG_BLOCKS, MAX_PAGES, MIN_LOG_BLOCKS, PAGE_SIZE}
 use Rattle.model_script.specs.declared.misfit.TheConstants.{MAX_USERS}
 use Rattle.model_script.specs.Words.{Said, said_from, spelling}
 use Rattle.model_script.specs.declared.asked.Asked.{Asked}
@@ -48,6 +49,15 @@ abbrev pub number_or : ℕ → ℕ → ℕ → Option ℕ → Option ℕ
 number_or least greatest default None = Some default
 number_or least greatest default (Some n) = number_within least greatest n
 
+-- the number, if a page may have so many bytes
+abbrev pub allowed_page_size : ℕ → Option ℕ
+allowed_page_size n = if is_page_size n then Some n else None
+
+-- how many bytes a page has: 4,096 where nothing else is asked
+abbrev pub page_size_or : Option ℕ → Option ℕ
+page_size_or None = Some PAGE_SIZE
+page_size_or (Some n) = allowed_page_size n
+
 -- how many followers read the log back: none where nothing else is asked
 abbrev pub given_followers : List Given → Option ℕ
 given_followers options = number_or 1 MAX_FOLLOWERS 0 (given_number name.Followers options)
@@ -70,10 +80,11 @@ drive_names = name.Turns ∷ name.Max ∷ name.Threads ∷ name.LogOnly ∷ name
 
 abbrev pub given_format : List Given → Option Command
 given_format options =
-    option_and_then (λ pages. option_and_then (λ space. option_map (λ log_blocks. Format pages space log_blocks)
+    option_and_then (λ page_size. option_and_then (λ pages. option_and_then (λ space. option_map (λ log_blocks. Format page_size pages space log_blocks)
     (number_or MIN_LOG_BLOCKS MAX_LOG_BLOCKS DEFAULT_LOG_BLOCKS (given_number name.LogBlocks options)))
     (number_or 0 (2 ^ 32 - 1) DEFAULT_SPACE (given_number name.Space options)))
-    (number_or 1 MAX_PAGES DEFAULT_PAGES (given_number name.Pages options))
+    (number_or 1 MAX_PAGES DEFAULT_PAGES (given_number name.Pages options)))
+    (page_size_or (given_number name.PageSize options))
 
 -- how many workers apply the groups of the log: one where nothing else is asked
 abbrev pub given_workers : List Given → Option ℕ
@@ -103,7 +114,7 @@ where_allowed names options command = if are_among names options && are_differen
 -- the command of this name, which has no number by itself
 abbrev pub plain_command : List ℕ → List Given → Option Command
 plain_command text options =
-    if bytes_eq text (codes "format") then where_allowed (name.Pages ∷ name.Space ∷ name.LogBlocks ∷ []) options (given_format options)
+    if bytes_eq text (codes "format") then where_allowed (name.PageSize ∷ name.Pages ∷ name.Space ∷ name.LogBlocks ∷ []) options (given_format options)
     else (if bytes_eq text (codes "run") then where_allowed (name.Archive ∷ drive_names) options (given_run options)
     else (if bytes_eq text (codes "crash") then where_allowed (name.StopLog ∷ name.StopData ∷ name.Pick ∷ name.Workers ∷ drive_names) options (given_crash options)
     else (if bytes_eq text (codes "recover") then where_allowed (name.Workers ∷ []) options (option_map Recover (given_workers options))

@@ -7,7 +7,7 @@ pub mod LineGroup
 pub mod Ranges
 pub mod Spelling
 pub mod Words
-pub use Rattle.model_script.specs.Commands.{are_among, are_different, drive_names, given_crash, given_drive, given_followers, given_format, given_gen, given_number, given_run, given_workers, is_among, is_given, is_named, named_command, number_or, number_within, plain_command, where_allowed}
+pub use Rattle.model_script.specs.Commands.{allowed_page_size, are_among, are_different, drive_names, given_crash, given_drive, given_followers, given_format, given_gen, given_number, given_run, given_workers, is_among, is_given, is_named, named_command, number_or, number_within, page_size_or, plain_command, where_allowed}
 unfoldable pub use Rattle.model_script.specs.Commands.{asked_of}
 pub use Rattle.model_script.specs.Fit.{archive_misfit, archive_need, first_misfit_of, group_misfit, item_misfit, lsn_misfit, misfit_if, page_misfit, round_end, script_end, total_misfit, user_misfit, write_misfit}
 unfoldable pub use Rattle.model_script.specs.Fit.{first_misfit, line_misfit}

@@ -21,6 +21,7 @@ spelling name.LogBlocks = codes "--log-blocks"
 spelling name.LogOnly = codes "--log-only"
 spelling name.Max = codes "--max"
 spelling name.OwnWrites = codes "--own-writes"
+spelling name.PageSize = codes "--page-size"
 spelling name.Pages = codes "--pages"
 spelling name.Pick = codes "--pick"
 spelling name.Run = codes "--run"
@@ -35,9 +36,9 @@ spelling name.Workers = codes "--workers"
 
 abbrev pub every_name : List Name
 every_name =
-    name.Archive ∷ name.Files ∷ name.Followers ∷ name.LogBlocks ∷ name.LogOnly ∷ name.Max ∷ name.OwnWrites ∷ name.Pages
-    ∷ name.Pick ∷ name.Run ∷ name.Space ∷ name.StopData ∷ name.StopLog ∷ name.Threads ∷ name.To ∷ name.Turns ∷ name.Why
-    ∷ name.Workers ∷ []
+    name.Archive ∷ name.Files ∷ name.Followers ∷ name.LogBlocks ∷ name.LogOnly ∷ name.Max ∷ name.OwnWrites
+    ∷ name.PageSize ∷ name.Pages ∷ name.Pick ∷ name.Run ∷ name.Space ∷ name.StopData ∷ name.StopLog ∷ name.Threads ∷ name.To
+    ∷ name.Turns ∷ name.Why ∷ name.Workers ∷ []
 
 -- the option that is spelled so
 unfoldable pub name_of : List ℕ → Option Name
@@ -55,6 +56,7 @@ is_flag name.Why = true
 is_flag name.Followers = false
 is_flag name.LogBlocks = false
 is_flag name.Max = false
+is_flag name.PageSize = false
 is_flag name.Pages = false
 is_flag name.Pick = false
 is_flag name.Space = false

@@ -24,6 +24,8 @@ pub struct Drive {
 pub enum Command {
     /// Formats both devices.
     Format {
+        /// How many bytes a page has.
+        page_size: u32,
         pages: u32,
         space: u32,
         log_blocks: u32,

@@ -21,6 +21,7 @@ pub enum Name {
     LogOnly,
     Max,
     OwnWrites,
+    PageSize,
     Pages,
     Pick,
     Run,

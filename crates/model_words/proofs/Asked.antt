@@ -4,13 +4,13 @@ use Rattle.std.specs.Prelude.{if◌then◌else◌, option_and_then, find, fold, 
 use Rattle.std.specs.Str.{bytes_eq}
 use Rattle.clap.specs.Walk.{Row, Text, with_default}
 use Rattle.clap.proofs.WalkLemmas.{both}
-use Rattle.model_script.specs.{digits_value, is_number, number_below, Said, are_different, named_command, given_number, is_flag, is_given, is_named, number_or, number_within, said_from, with_option, with_value, word_number}
+use Rattle.model_script.specs.{digits_value, is_number, number_below, Said, are_different, named_command, given_number, is_flag, is_given, is_named, number_or, number_within, page_size_or, allowed_page_size, said_from, with_option, with_value, word_number}
 use Rattle.model_script.specs.declared.asked.Asked.{Asked}
 use Rattle.model_script.specs.declared.words.Expected.TheVariants.{Any}
 use Rattle.model_script.specs.declared.words.Given.{Given}
 use Rattle.model_script.specs.declared.words.Name.{Name}
 use Rattle.model_script.specs.declared.words.Name.TheVariants as name
-use Rattle.model_words.specs.Found.{asked_with, is_true, text_number, text_number_or, text_number_within}
+use Rattle.model_words.specs.Found.{asked_with, is_true, text_number, text_number_or, text_number_within, text_page_size}
 use Rattle.model_words.proofs.Rules.{Place, id, leaf, rules}
 use Rattle.model_words.proofs.Leaf.{check}
 use Rattle.model_words.proofs.Lookups.{Ok, added, goes, same_name, text_in, text_more}
@@ -93,6 +93,12 @@ or_is least greatest default None n e = ap (λ x. number_or least greatest defau
 or_is least greatest default (Some t) n e =
     let is = map_says Some (word_number t) n e in
     ap (option_and_then (number_within least greatest)) is.1 ∙ ap (number_or least greatest default) (sym is.2)
+
+pub page_size_is : (o : Option Text) (n : Option ℕ) → text_number o ≡ Some n → text_page_size o ≡ page_size_or n
+page_size_is None n e = ap (λ x. page_size_or (unwrap_or x n)) e
+page_size_is (Some t) n e =
+    let is = map_says Some (word_number t) n e in
+    ap (option_and_then allowed_page_size) is.1 ∙ ap page_size_or (sym is.2)
 
 pub within_is : (least greatest : ℕ) (o : Option Text) (n : Option ℕ) → text_number o ≡ Some n → text_number_within least greatest o ≡ option_and_then (number_within least greatest) n
 within_is least greatest None n e = ap (λ x. option_and_then (number_within least greatest) (unwrap_or x n)) e

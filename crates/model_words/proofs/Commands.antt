@@ -3,11 +3,11 @@ use Rattle.std.proofs.Common.{◌≡◌, ◌∙◌, ◌&&◌, refl, sym, ap, ℕ
 use Rattle.std.specs.Prelude.{if◌then◌else◌, option_and_then, fold}
 use Rattle.std.proofs.Math.Bool.{and-false}
 use Rattle.clap.specs.Walk.{Row, Rule, Text, first_of, with_default}
-use Rattle.model_script.specs.{Said, given_number, is_flag, is_given, number_within, word_number}
+use Rattle.model_script.specs.{Said, allowed_page_size, given_number, is_flag, is_given, number_within, word_number}
 use Rattle.model_script.specs.declared.asked.Asked.{Asked}
 use Rattle.model_script.specs.declared.asked.Command.{Command}
 use Rattle.model_script.specs.declared.words.Name.{Name}
-use Rattle.model_words.specs.Found.{is_true, text_number, text_number_or, text_number_within}
+use Rattle.model_words.specs.Found.{is_true, text_number, text_number_or, text_number_within, text_page_size}
 use Rattle.model_words.proofs.Asked.{flag_in, number_in}
 use Rattle.model_words.proofs.Lookups.{Ok, text_in}
 use Rattle.model_words.proofs.Rules.{Place, id, plain}
@@ -53,6 +53,9 @@ module _ (names : List Name) (c : List Rule) (p : Place) (us : List Use) (said :
 
 pub or_bad : (least greatest default : ℕ) (o : Option Text) (t : Text) → o ≡ Some t → word_number t ≡ None → text_number_or least greatest default o ≡ None
 or_bad least greatest default o t e none = ap (text_number_or least greatest default) e ∙ ap (option_and_then (number_within least greatest)) none
+
+pub page_size_bad : (o : Option Text) (t : Text) → o ≡ Some t → word_number t ≡ None → text_page_size o ≡ None
+page_size_bad o t e none = ap text_page_size e ∙ ap (option_and_then allowed_page_size) none
 
 pub within_bad : (least greatest : ℕ) (o : Option Text) (t : Text) → o ≡ Some t → word_number t ≡ None → text_number_within least greatest o ≡ None
 within_bad least greatest o t e none = ap (text_number_within least greatest) e ∙ ap (option_and_then (number_within least greatest)) none

@@ -20,6 +20,7 @@ id name.LogBlocks = codes "log-blocks"
 id name.LogOnly = codes "log-only"
 id name.Max = codes "max"
 id name.OwnWrites = codes "own-writes"
+id name.PageSize = codes "page-size"
 id name.Pages = codes "pages"
 id name.Pick = codes "pick"
 id name.Run = codes "run"
@@ -90,7 +91,7 @@ leaf text names values = record (new_shape text) {
 }
 
 abbrev pub format_names : List Name
-format_names = name.Files ∷ name.Pages ∷ name.Space ∷ name.LogBlocks ∷ []
+format_names = name.Files ∷ name.PageSize ∷ name.Pages ∷ name.Space ∷ name.LogBlocks ∷ []
 
 abbrev pub run_names : List Name
 run_names =

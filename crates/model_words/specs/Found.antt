@@ -4,9 +4,9 @@ use Rattle.std.specs.Prelude.{ℕ, ◌^◌, ◌-◌, if◌then◌else◌, Bool, 
 use Rattle.std.specs.Str.{bytes_eq}
 use Rattle.clap.specs.Words.{Row, Text, fault_of, first_of, subcommand_of}
 use Rattle.clap.specs.Walk.{is_empty}
-use Rattle.model_base.specs.declared.limits.TheConstants.{DEFAULT_LOG_BLOCKS, DEFAULT_PAGES, DEFAULT_SPACE, MAX_LOG_BLOCKS, MAX_PAGES, MIN_LOG_BLOCKS}
+use Rattle.model_base.specs.declared.limits.TheConstants.{DEFAULT_LOG_BLOCKS, DEFAULT_PAGES, DEFAULT_SPACE, MAX_LOG_BLOCKS, MAX_PAGES, MIN_LOG_BLOCKS, PAGE_SIZE}
 use Rattle.model_script.specs.declared.misfit.TheConstants.{MAX_USERS}
-use Rattle.model_script.specs.{number_within, word_number}
+use Rattle.model_script.specs.{allowed_page_size, number_within, word_number}
 use Rattle.model_script.specs.declared.asked.Asked.{Asked}
 use Rattle.model_script.specs.declared.asked.Command.{Command}
 use Rattle.model_script.specs.declared.asked.Command.TheVariants.{Format, Run, Crash, Recover, Dump, Restore, Gen}
@@ -23,6 +23,11 @@ is_true (Some text) = bytes_eq text (codes "true")
 abbrev pub text_number_or : ℕ → ℕ → ℕ → Option Text → Option ℕ
 text_number_or least greatest default None = Some default
 text_number_or least greatest default (Some text) = option_and_then (number_within least greatest) (word_number text)
+
+-- the number of a text, if a page may have so many bytes, or 4,096 where there is no text
+abbrev pub text_page_size : Option Text → Option ℕ
+text_page_size None = Some PAGE_SIZE
+text_page_size (Some text) = option_and_then allowed_page_size (word_number text)
 
 -- the number of a text within its limits; there has to be one
 abbrev pub text_number_within : ℕ → ℕ → Option Text → Option ℕ
@@ -56,10 +61,11 @@ run_from rows = option_map Run (drive_from (is_true (first_of (codes "archive") 
 
 abbrev pub format_from : List Row → Option Command
 format_from rows =
-    option_and_then (λ pages. option_and_then (λ space. option_map (λ log_blocks. Format pages space log_blocks)
+    option_and_then (λ page_size. option_and_then (λ pages. option_and_then (λ space. option_map (λ log_blocks. Format page_size pages space log_blocks)
     (text_number_or MIN_LOG_BLOCKS MAX_LOG_BLOCKS DEFAULT_LOG_BLOCKS (first_of (codes "log-blocks") rows)))
     (text_number_or 0 (2 ^ 32 - 1) DEFAULT_SPACE (first_of (codes "space") rows)))
-    (text_number_or 1 MAX_PAGES DEFAULT_PAGES (first_of (codes "pages") rows))
+    (text_number_or 1 MAX_PAGES DEFAULT_PAGES (first_of (codes "pages") rows)))
+    (text_page_size (first_of (codes "page-size") rows))
 
 abbrev pub workers_from : List Row → Option ℕ
 workers_from rows = text_number_or 1 MAX_WORKERS 1 (first_of (codes "workers") rows)

@@ -77,6 +77,7 @@ fn format_command<'a>(alloc: Global) -> Result<Command<'a>, AllocError>
     ensures { IfOk result (IsApp format_app) }
 {
     let command = plain(alloc, "format")?;
+    let command = with_number(alloc, command, "page-size")?;
     let command = with_number(alloc, command, "pages")?;
     let command = with_number(alloc, command, "space")?;
     with_number(alloc, command, "log-blocks")

@@ -2,12 +2,13 @@
 ghost use Rattle.std.specs.Prelude.{◌≡◌, codes, option_and_then, option_map};
 ghost use Rattle.clap.specs.Words.{first_of, found_of, rows_of};
 ghost use Rattle.model_base.specs.declared.limits.TheConstants.{DEFAULT_LOG_BLOCKS, DEFAULT_PAGES, DEFAULT_SPACE, MAX_LOG_BLOCKS, MAX_PAGES, MIN_LOG_BLOCKS};
-ghost use Rattle.model_script.specs.{number_within, word_number};
-ghost use Rattle.model_words.specs.Found.{asked_with, command_from, crash_from, drive_from, followers_from, format_from, gen_from, is_true, restore_from, run_from, text_number, text_number_or, text_number_within, workers_from};
+ghost use Rattle.model_script.specs.{allowed_page_size, number_within, word_number};
+ghost use Rattle.model_words.specs.Found.{asked_with, command_from, crash_from, drive_from, followers_from, format_from, gen_from, is_true, restore_from, run_from, text_number, text_number_or, text_number_within, text_page_size, workers_from};
 
 use clap::ArgMatches;
 use model_base::{
-    DEFAULT_LOG_BLOCKS, DEFAULT_PAGES, DEFAULT_SPACE, MAX_LOG_BLOCKS, MAX_PAGES, MIN_LOG_BLOCKS,
+    DEFAULT_LOG_BLOCKS, DEFAULT_PAGES, DEFAULT_SPACE, LARGE_PAGE_SIZE, MAX_LOG_BLOCKS, MAX_PAGES,
+    MIN_LOG_BLOCKS, PAGE_SIZE,
 };
 use model_script::{
     Asked, Command, DEFAULT_TURNS, Drive, MAX_FOLLOWERS, MAX_GENERATED, MAX_TURNS, MAX_USERS,
@@ -66,6 +67,23 @@ fn number_or(
     match text_of(found, name) {
         None => Some(default),
         Some(text) => word_within(text, least, greatest),
+    }
+}
+
+// The number, if a page may have so many bytes.
+fn allowed_page_size(number: u64) -> Option<u64>
+    ensures { result ≡ allowed_page_size number }
+{
+    (number == u64::from(PAGE_SIZE) || number == u64::from(LARGE_PAGE_SIZE)).then_some(number)
+}
+
+// How many bytes a page has.
+fn page_size_of(found: &ArgMatches<'_>) -> Option<u64>
+    ensures { result ≡ text_page_size (first_of (codes "page-size") (rows_of (found_of found.now))) }
+{
+    match text_of(found, "page-size") {
+        None => Some(u64::from(PAGE_SIZE)),
+        Some(text) => allowed_page_size(word_number(text)?),
     }
 }
 
@@ -129,6 +147,7 @@ fn read_run(found: &ArgMatches<'_>) -> Option<Command>
 fn read_format(found: &ArgMatches<'_>) -> Option<Command>
     ensures { result ≡ format_from (rows_of (found_of found.now)) }
 {
+    let page_size = page_size_of(found)?;
     let pages = number_or(
         found,
         "pages",
@@ -151,6 +170,7 @@ fn read_format(found: &ArgMatches<'_>) -> Option<Command>
         u64::from(DEFAULT_LOG_BLOCKS),
     )?;
     Some(Command::Format {
+        page_size: page_size as u32,
         pages: pages as u32,
         space: space as u32,
         log_blocks: log_blocks as u32,
