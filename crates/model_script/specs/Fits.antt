@@ -1,4 +1,4 @@
--- That a script fits a store: each of its lines, and the room for all of them. It fits exactly where it has no misfit.
+-- That a script fits a store, by its lines and the room for all of them. It fits exactly where it has no misfit.
 use Rattle.std.specs.Prelude.{ℕ, ◌≡◌, ◌≤◌, ◌<◌, ◌+◌, if◌then◌else◌, Bool, List, Option, Some, None, IfSome}
 use Rattle.std.specs.List.{AllByRecursion}
 use Rattle.model_base.specs.declared.shape.Shape.{Shape}

@@ -94,7 +94,7 @@ pub record Tried : Type 0 where
   pub data_bytes : List ℕ
   pub reading : Reading
 
--- All that is promised of such a run holds of it.
+-- What the crash theorem promises of a run, and of what is read after it, holds of such a one.
 pub record IsAdmitted (tried : Tried) : Type 0 where
   pub is_script : script_of tried.text ≡ Ok tried.script
   pub fits : IfSome tried.run (λ run. misfit_on false None tried.opened tried.script ≡ None)

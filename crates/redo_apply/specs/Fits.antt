@@ -1,4 +1,4 @@
--- When a group may be applied to pages: it fits a store that has them.
+-- The pages to which groups are applied.
 use Rattle.std.specs.Prelude.{ℕ, ◌≡◌, List, length, slice_get, Some}
 use Rattle.model_base.specs.{user_length}
 use Rattle.model_base.specs.declared.shape.Shape.{Shape}

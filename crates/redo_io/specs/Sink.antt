@@ -1,5 +1,4 @@
--- What a writer to a sink sees of it, and what a write does to that. A sink that doesn't tell what it has taken never
--- does.
+-- What a writer to a sink sees of it, and what it has taken then. A sink that doesn't tell what it has taken never does.
 use Rattle.std.specs.Prelude.{ℕ, ◌≡◌, ◌<◌, List, ◌++◌, length, take, Option, None, Some}
 
 -- a sink, as its writers see it

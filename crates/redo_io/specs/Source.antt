@@ -1,5 +1,4 @@
--- What a reader of a source sees of it, and what a read does to that. A source that doesn't tell what it has left never
--- does.
+-- What a reader of a source sees of it, and what reads take away. A source that doesn't tell what it has left never does.
 use Rattle.std.specs.Prelude.{ℕ, ◌≡◌, ◌≤◌, List, length, drop, Option, None, Some}
 
 -- a source, as its readers see it

@@ -7,7 +7,7 @@ use model_base::Shape;
 /// Bytes of a log device on which a store of the default sizes has room.
 pub const LOG_LENGTH: u64 = 1_050_624;
 /// Bytes of its data device.
-pub const STORE_LENGTH: u64 = 65_536;
+pub const STORE_LENGTH: u64 = 557_056;
 /// Bytes of an archive's device in memory.
 pub const ARCHIVE_LENGTH: u64 = 16_777_216;
 

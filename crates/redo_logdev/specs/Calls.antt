@@ -1,4 +1,4 @@
--- What a few device calls in a row do to a device.
+-- The writes of a log part: of blocks round the ring, and of a checkpoint.
 use Rattle.std.specs.Prelude.{ℕ, ◌+◌, ◌-◌, ◌*◌, ◌/◌, min, List, [], ◌∷◌, ◌++◌, length, take, drop}
 use Rattle.model_base.specs.declared.limits.TheConstants.{BLOCK_SIZE}
 use Rattle.model_device.specs.declared.write.Write.{Write}

@@ -1,4 +1,4 @@
--- What callers see of a log part, and what its calls ask for and keep.
+-- A log part as its callers see it, and what each of its calls leaves.
 use Rattle.std.specs.Prelude.{◌≡◌, Option, None, Result}
 use Rattle.model_base.specs.declared.shape.Shape.{Shape}
 use Rattle.model_parts.specs.declared.marks.LogMarks.{LogMarks}

@@ -1,4 +1,4 @@
--- What reading a block of the run back asks for, and what it gives.
+-- From where a block of the run is read back.
 use Rattle.std.specs.Prelude.{ℕ, ◌+◌, ◌*◌, nat_le, if◌then◌else◌}
 use Rattle.model_base.specs.declared.limits.TheConstants.{BLOCK_SIZE}
 use Rattle.model_log.specs.{place_in, run_layout}

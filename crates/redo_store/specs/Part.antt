@@ -1,4 +1,4 @@
--- What a data part is to its callers, and what its device holds.
+-- A data part as its callers see it, and what each of its calls leaves.
 use Rattle.std.specs.Prelude.{◌≡◌, Option, Result}
 use Rattle.model_base.specs.declared.shape.Shape.{Shape}
 use Rattle.redo_disk.specs.{error_of, HasCause}

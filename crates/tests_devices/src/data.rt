@@ -51,8 +51,8 @@ fn a_torn_place_has_a_copy(rt: HostRuntime) -> Result<(), Fail> {
     let alloc = rt.alloc();
     let shape = Shape::default_shape();
     let image = read_all(alloc, &mut torn(&rt, alloc)?)?;
-    assert!(rt; check(&image[11 * PAGE..12 * PAGE]) == PageState::Broken);
-    assert!(rt; image[11 * PAGE + 2047] == 7 && image[11 * PAGE + 2048] == 0);
+    assert!(rt; check(&image[131 * PAGE..132 * PAGE]) == PageState::Broken);
+    assert!(rt; image[131 * PAGE + 2047] == 7 && image[131 * PAGE + 2048] == 0);
     assert!(rt; best_copy(&image, &shape, 3) == Some((0, 9_000)));
     let kept = kept_page(alloc, &image, &shape, 3)?.ok_or("lost")?;
     assert!(rt; kept.lsn == 9_000 && kept.user.as_slice().first() == Some(&7));
@@ -89,7 +89,7 @@ fn tear<D: Sectors>(dev: &mut D) -> Result<(), DevError>
 {
     put_copy(dev, 1, 9_000)?;
     put_copy(dev, 6, 8_500)?;
-    dev.write(13 * PAGE as u64, &[9; 512])?;
+    dev.write(133 * PAGE as u64, &[9; 512])?;
     dev.sync()
 }
 

@@ -22,8 +22,8 @@ pub const SHAPE: Shape = Shape {
 /// Bytes of the log device.
 pub const LOG: u64 = 526_336;
 
-/// Bytes of the data device: eight slots and eight places.
-pub const DATA: u64 = 65_536;
+/// Bytes of the data device: 128 slots and eight places.
+pub const DATA: u64 = 557_056;
 
 /// Bytes of a page.
 pub const PAGE: usize = 4096;

@@ -30,6 +30,31 @@ fn filled_heads(rt: HostRuntime) {
     }
 }
 
+// A header of format 3 names 128 slots, and 1 to 1,024 pages.
+#[test]
+fn heads_of_format_3(rt: HostRuntime) {
+    let mut block = [0; 512];
+    for (pages, slots, is_good) in [
+        (1, 128, true),
+        (1024, 128, true),
+        (1025, 128, false),
+        (0, 128, false),
+        (8, 8, false),
+        (8, 127, false),
+    ] {
+        let shape = Shape {
+            pages,
+            slots,
+            ..SHAPE
+        };
+        fill_head(&mut block, Format::Three, &shape);
+        assert!(rt; block.starts_with(b"\0\0\0\x03"));
+        let head = read_one_head(&block);
+        assert!(rt; (head == Head::Good(Format::Three, shape)) == is_good);
+        assert!(rt; is_good || head == Head::Unformatted);
+    }
+}
+
 #[test]
 fn filled_checkpoints(rt: HostRuntime) {
     let mut block = [0xFF; 512];
@@ -72,10 +97,11 @@ fn checkpoints_at_the_first_block(rt: HostRuntime) {
 const DAMAGED_HEADS: &str = "\
 0    00000000            format 0                         format 0
 0    00000002            good 2 4096 8 1 2048 8           format 2
-0    00000003            format 3                         format 3
+0    00000003            unformatted                      format 3, of 8 slots
+0    00000004            format 4                         format 4
 0    FFFFFFFF            format 4294967295                format 2^32 - 1
 0    000000020000000001  unformatted                      format 2 and no start
-0    000000030000000001  format 3                         format 3 and no start
+0    000000040000000001  format 4                         format 4 and no start
 7    01                  good 1 4096 8 1 2048 8           the zeros behind the format
 15   01                  unformatted                      start 8193
 8    01                  unformatted                      start 2^56 + 8192
@@ -94,6 +120,7 @@ const DAMAGED_HEADS: &str = "\
 60   00100001            unformatted                      1,048,577 log blocks
 67   07                  unformatted                      7 slots
 67   09                  unformatted                      9 slots
+67   80                  unformatted                      128 slots
 68   01                  good 1 4096 8 1 2048 8           the first zero
 507  01                  good 1 4096 8 1 2048 8           the last zero
 ";

@@ -59,7 +59,7 @@ fn places(rt: HostRuntime) {
 }
 
 // The format of a store, its number of log blocks, an lsn, and the offset of its block on the device. In format 1 the
-// ring has as many blocks as the log, from offset 2048 on; in format 2 it has two fewer, from 3072 on.
+// ring has as many blocks as the log, from offset 2048 on; in formats 2 and 3 it has two fewer, from 3072 on.
 const OFFSETS: &str = "\
 1  1024     8192          2048
 1  1024     531968        525824
@@ -86,6 +86,8 @@ const OFFSETS: &str = "\
 2  2048     1055744       3072
 2  1048576  536878079     536872448
 2  1048576  536878080     3072
+3  1024     531456        3072
+3  2048     1055744       3072
 ";
 
 fn is_at_its_offset(rt: &impl Abort, row: &str) -> bool {

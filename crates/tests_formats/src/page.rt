@@ -2,7 +2,7 @@
 // `page` with a number and an lsn, which is a page of space 1, or by `torn` with the same, which is the first half of
 // one.
 use crate::table::{narrow, number, number32, optional, see, see_at};
-use model_base::Shape;
+use model_base::{DEFAULT_LOG_BLOCKS, DEFAULT_PAGES, DEFAULT_SPACE, EARLY_SLOTS, PAGE_SIZE, Shape};
 use redo_page::{PageState, best_copy, check, copy_lsn, kept_page, place_lsn, seal};
 use std::process::Abort;
 use std::str::SplitWhitespace;
@@ -30,6 +30,15 @@ fn stretch(rt: &impl Abort, words: &mut SplitWhitespace<'_>) -> [u8; 4096] {
     }
     page
 }
+
+/// The default sizes of a store of format 2.
+const EARLY: Shape = Shape {
+    page_size: PAGE_SIZE,
+    pages: DEFAULT_PAGES,
+    space: DEFAULT_SPACE,
+    log_blocks: DEFAULT_LOG_BLOCKS,
+    slots: EARLY_SLOTS,
+};
 
 /// A data device of 8 slots and 8 places, with nothing on it.
 const BLANK: [[u8; 4096]; 16] = [[0; 4096]; 16];
@@ -108,15 +117,14 @@ fn has_copy(
     image: &[[u8; 4096]; 16],
     want: Option<(u32, u64)>,
 ) -> bool {
-    let shape = Shape::default_shape();
     let image = image.as_flattened();
-    let kept = kept_page(rt.alloc(), image, &shape, 5).expect(rt, "no memory");
+    let kept = kept_page(rt.alloc(), image, &EARLY, 5).expect(rt, "no memory");
     let is_kept = match (kept, want) {
         (Some(kept), Some((_, lsn))) => kept.lsn == lsn,
         (None, None) => true,
         _ => false,
     };
-    is_kept && best_copy(image, &shape, 5) == want
+    is_kept && best_copy(image, &EARLY, 5) == want
 }
 
 fn copy_counts(rt: &(impl Abort + AllocGlobal), row: &str) -> bool {
@@ -153,7 +161,7 @@ fn is_kept(rt: &(impl Abort + AllocGlobal), row: &str) -> bool {
 
 // What is kept of page 5 of the image of a data device is the page with this lsn.
 fn has_page(rt: &(impl Abort + AllocGlobal), image: &[[u8; 4096]; 16], lsn: u64) -> bool {
-    let kept = kept_page(rt.alloc(), image.as_flattened(), &Shape::default_shape(), 5);
+    let kept = kept_page(rt.alloc(), image.as_flattened(), &EARLY, 5);
     match kept.expect(rt, "no memory") {
         Some(kept) => kept.lsn == lsn && kept.user.as_slice() == [user_byte(lsn); 4050].as_slice(),
         None => false,

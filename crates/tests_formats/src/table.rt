@@ -66,6 +66,7 @@ pub fn format(rt: &impl Abort, words: &mut SplitWhitespace<'_>) -> Format {
     match word(rt, words) {
         "1" => Format::One,
         "2" => Format::Two,
+        "3" => Format::Three,
         word => panic!(rt; "no format: {word}"),
     }
 }

@@ -32,8 +32,8 @@ new | crash                    | 17 f i 3        | 10 | fault fit user 17
 new | recover                  | 1 f b1 3 100 7  |  8 | fault store unformatted
 new | dump                     | 1 f b1 3 100 7  |  8 | fault store unformatted
 new |                          | 1 f b1 3 100 7  |  2 | fault words
-new | format --pages 9         | 1 f b1 3 100 7  | 10 | fault fit store 69632
-new | format --pages 64        | 1 f b1 3 100 7  | 10 | fault fit store 294912
+new | format --pages 9         | 1 f b1 3 100 7  | 10 | fault fit store 561152
+new | format --pages 64        | 1 f b1 3 100 7  | 10 | fault fit store 786432
 new | format --log-blocks 2049 | 1 f b1 3 100 7  | 10 | fault fit log 1051136
 ",
     )

@@ -2,7 +2,7 @@
 ghost use Rattle.std.specs.Prelude.{◌≡◌, ◌≤◌, ◌<◌, ◌^◌, ◌%◌};
 ghost use Rattle.model_base.specs.declared.limits.TheConstants.{BLOCK_SIZE, START_LSN};
 
-use model_base::{LSN_LIMIT, Shape};
+use model_base::{EARLY_SLOTS, LSN_LIMIT, Shape};
 use model_log::Format;
 use redo_block::fill;
 use redo_crc::sector;
@@ -34,8 +34,8 @@ const LAST_BLOCK: u64 = 1_042_944;
 /// Bytes of a page, and of a slot.
 const PAGE: u64 = 4096;
 
-/// Where the place of page 5 stands: after eight slots and five places.
-const PLACE: u64 = 13 * PAGE;
+/// Where the place of page 5 stands: after 128 slots and five places.
+const PLACE: u64 = 133 * PAGE;
 
 /// Bytes of the archive's device.
 const ARCHIVE: u64 = 65_536;
@@ -152,10 +152,14 @@ fn put_checkpoint(log: &mut MemDisk, number: u64, lsn: u64) -> Result<(), DevErr
     put_checkpoint_by(log, Format::Two, number, lsn)
 }
 
-/// The header of format 1 of the default sizes.
+/// The header of format 1, of the default sizes but for its slots.
 fn first_head() -> [u8; 512] {
     let mut head = [0; 512];
-    fill_head(&mut head, Format::One, &Shape::default_shape());
+    let shape = Shape {
+        slots: EARLY_SLOTS,
+        ..Shape::default_shape()
+    };
+    fill_head(&mut head, Format::One, &shape);
     head
 }
 

@@ -84,13 +84,13 @@ fn begins_with(rt: &HostRuntime, file: &str, front: &[u8]) -> Result<(usize, boo
 fn keeps_a_store_in_files(rt: HostRuntime) -> Result<(), Fail> {
     let files = ("redo.log", "redo.data", "redo.archive");
     assert!(rt; answers(&rt, &rt, "run --files", files, 0, LINE_RUN)?);
-    // the log device begins with its format, 2
-    let log = begins_with(&rt, files.0, &[0, 0, 0, 2, 0, 0, 0, 0])?;
+    // the log device begins with its format, 3
+    let log = begins_with(&rt, files.0, &[0, 0, 0, 3, 0, 0, 0, 0])?;
     assert_eq!(rt; log, (LOG_LENGTH as usize, true));
     // no page was written, so the slots are as they were formatted
     let data = begins_with(&rt, files.1, &[0, 0, 0, 0])?;
     assert_eq!(rt; data, (STORE_LENGTH as usize, true));
-    let text = "store 4096 8 1 2048 8\ncheckpoint 1 8192\nblock 8192 17 18 12 0\n\
+    let text = "store 4096 8 1 2048 128\ncheckpoint 1 8192\nblock 8192 17 18 12 0\n\
         group 8204 8210 1\nrec b1 3 100 7\nend 8210\n";
     assert!(rt; answers(&rt, &rt, "dump --files", files, 0, text)?);
     fs::remove_file(&rt, files.0)?;

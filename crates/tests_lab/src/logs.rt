@@ -34,8 +34,8 @@ fn lists_the_blocks_of_one_line(rt: HostRuntime) -> Result<(), Fail> {
         &rt,
         "
 new  | run        | 1 f b1 3 100 7 | 0 | open 8204 / g 8204 8210 1 0 flushed / marks 8210 8210 8210 8192
-same | dump       |                | 0 | store 4096 8 1 2048 8 / checkpoint 1 8192 / block 8192 17 18 12 0 / group 8204 8210 1 / rec b1 3 100 7 / end 8210
-same | dump --why |                | 0 | store 4096 8 1 2048 8 / checkpoint 1 8192 / block 8192 17 18 12 0 / stop 8192 partial / group 8204 8210 1 / rec b1 3 100 7 / end 8210
+same | dump       |                | 0 | store 4096 8 1 2048 128 / checkpoint 1 8192 / block 8192 17 18 12 0 / group 8204 8210 1 / rec b1 3 100 7 / end 8210
+same | dump --why |                | 0 | store 4096 8 1 2048 128 / checkpoint 1 8192 / block 8192 17 18 12 0 / stop 8192 partial / group 8204 8210 1 / rec b1 3 100 7 / end 8210
 ",
     )
 }
@@ -46,7 +46,7 @@ fn lists_a_group_of_two_records(rt: HostRuntime) -> Result<(), Fail> {
         &rt,
         "
 new  | run  | 1 f b1 3 100 7;b1 4 100 8 | 0 | open 8204 / g 8204 8217 1 0 flushed / marks 8217 8217 8217 8192
-same | dump |                           | 0 | store 4096 8 1 2048 8 / checkpoint 1 8192 / block 8192 17 25 12 0 / group 8204 8217 2 / rec b1 3 100 7 / rec b1 4 100 8 / end 8217
+same | dump |                           | 0 | store 4096 8 1 2048 128 / checkpoint 1 8192 / block 8192 17 25 12 0 / group 8204 8217 2 / rec b1 3 100 7 / rec b1 4 100 8 / end 8217
 ",
     )
 }
@@ -57,7 +57,7 @@ fn lists_the_blocks_of_a_long_group(rt: HostRuntime) -> Result<(), Fail> {
         &rt,
         "
 new  | run  | 1 f s 3 38 (0a*1193) | 0 | open 8204 / g 8204 9436 1 0 flushed / marks 9436 9436 9436 8192
-same | dump |                      | 0 | store 4096 8 1 2048 8 / checkpoint 1 8192 / block 8192 17 512 12 1 / block 8704 18 512 0 1 / block 9216 19 220 220 0 / group 8204 9436 1 / rec s 3 38 (0a*1193) / end 9436
+same | dump |                      | 0 | store 4096 8 1 2048 128 / checkpoint 1 8192 / block 8192 17 512 12 1 / block 8704 18 512 0 1 / block 9216 19 220 220 0 / group 8204 9436 1 / rec s 3 38 (0a*1193) / end 9436
 ",
     )
 }
@@ -68,9 +68,9 @@ fn ends_before_a_block_of_no_length(rt: HostRuntime) -> Result<(), Fail> {
         &rt,
         "
 new       | format     | | 0 | formatted 8192
-same      | dump --why | | 0 | store 4096 8 1 2048 8 / checkpoint 0 8192 / stop 8192 number / end 8204
+same      | dump --why | | 0 | store 4096 8 1 2048 128 / checkpoint 0 8192 / stop 8192 number / end 8204
 no length | recover    | | 0 | read 0 8204
-same      | dump --why | | 0 | store 4096 8 1 2048 8 / checkpoint 0 8192 / stop 8192 length / end 8204
+same      | dump --why | | 0 | store 4096 8 1 2048 128 / checkpoint 0 8192 / stop 8192 length / end 8204
 ",
     )
 }
@@ -83,7 +83,7 @@ fn ends_before_a_block_in_place_that_is_not_full(rt: HostRuntime) -> Result<(), 
         "
 new           | format     | | 0 | formatted 8192
 part in place | recover    | | 0 | read 0 8204
-same          | dump --why | | 0 | store 4096 8 1 2048 8 / checkpoint 0 8192 / stop 8192 length / end 8204
+same          | dump --why | | 0 | store 4096 8 1 2048 128 / checkpoint 0 8192 / stop 8192 length / end 8204
 ",
     )
 }
@@ -95,7 +95,7 @@ fn ends_at_the_last_lsn(rt: HostRuntime) -> Result<(), Fail> {
         &rt,
         "
 new        | format     | | 0 | formatted 8192
-last block | dump --why | | 0 | store 4096 8 1 2048 8 / checkpoint 2 1152921504606846464 / block 1152921504606846464 1073741824 512 0 2 / stop 1152921504606846976 end / end 1152921504606846988
+last block | dump --why | | 0 | store 4096 8 1 2048 128 / checkpoint 2 1152921504606846464 / block 1152921504606846464 1073741824 512 0 2 / stop 1152921504606846976 end / end 1152921504606846988
 ",
     )
 }
@@ -135,7 +135,7 @@ fn ends_behind_a_block_without_a_group(rt: HostRuntime) -> Result<(), Fail> {
         &rt,
         "
 new      | format  | | 0 | formatted 8192
-no group | dump    | | 0 | store 4096 8 1 2048 8 / checkpoint 2 8704 / block 8704 18 512 0 2 / end 9228
+no group | dump    | | 0 | store 4096 8 1 2048 128 / checkpoint 2 8704 / block 8704 18 512 0 2 / end 9228
 same     | recover | | 0 | read 0 9228
 ",
     )

@@ -189,7 +189,7 @@ tearing | crash --stop-log @ --pick 1 | 1 f b1 3 100 7 / 1 f s 4 38 a6bb207a(08*
 }
 
 /// Opening writes page 3 of a store whose log alone has it: after 10 calls of the data device come the write of slot 0, its
-/// sync, and the write of the place, which stands after eight slots and three places. Where the write of the slot is the last,
+/// sync, and the write of the place, which stands after 128 slots and three places. Where the write of the slot is the last,
 /// the place has nothing yet, and the log has it all; where that of the place is, the copy in the slot counts. So a page isn't
 /// lost by a sector that is torn, unless it passes its check then.
 #[test]
@@ -204,7 +204,7 @@ crash --stop-data 10 | 2 f b1 4 100 8 | 0 | open none / left 2 1 / recovered 0 8
     )?;
     play_harming_data(
         &rt,
-        Harm::Torn(11 * 4096),
+        Harm::Torn(131 * 4096),
         "
 run --log-only       | 1 f b1 3 100 7 | 0 | open 8204 / g 8204 8210 1 0 flushed / marks 8210 8210 8210 8192
 crash --stop-data 12 | 2 f b1 4 100 8 | 0 | open none / left 2 1 / recovered 0 8210 / p 3 8210 (00*62)07
@@ -243,14 +243,14 @@ crash | 2 f b1 3 101 8 | 0 | open 8716 / g 8716 8722 2 0 flushed / marks 8722 87
     )
 }
 
-/// The same on the data device, over the first sector of page 3's place, which stands after eight slots and three places. It
+/// The same on the data device, over the first sector of page 3's place, which stands after 128 slots and three places. It
 /// doesn't pass its check then, since its last sector isn't zero, and the page is read from its copy and the log. But once slot 0
 /// has had page 4, and the checkpoint stands past the group of page 3, that page is lost.
 #[test]
 fn another_writer_of_the_data_device_is_not_seen(rt: HostRuntime) -> Result<(), Fail> {
     play_harming_data(
         &rt,
-        Harm::Zeroed(11 * 4096),
+        Harm::Zeroed(131 * 4096),
         "
 run   | 1 f b1 3 100 7 | 0 | open 8204 / g 8204 8210 1 0 flushed / marks 8210 8210 8210 8192
 crash | 2 f b1 3 101 8 | 0 | open 8716 / g 8716 8722 2 0 flushed / marks 8722 8722 8722 8704 / recovered 1 8722 / p 3 8722 (00*62)0708
@@ -258,7 +258,7 @@ crash | 2 f b1 3 101 8 | 0 | open 8716 / g 8716 8722 2 0 flushed / marks 8722 87
     )?;
     play_harming_data(
         &rt,
-        Harm::Zeroed(11 * 4096),
+        Harm::Zeroed(131 * 4096),
         "
 run   | 1 f b1 3 100 7 | 0 | open 8204 / g 8204 8210 1 0 flushed / marks 8210 8210 8210 8192
 run   | 2 f b1 4 100 8 | 0 | open 8716 / g 8716 8722 2 0 flushed / marks 8722 8722 8722 8704

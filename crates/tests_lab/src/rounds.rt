@@ -22,7 +22,7 @@ fn runs_again_behind_the_first_run(rt: HostRuntime) -> Result<(), Fail> {
 new  | run     | 1 f b1 3 100 7 | 0 | open 8204 / g 8204 8210 1 0 flushed / marks 8210 8210 8210 8192
 same | run     | 1 f b1 3 101 9 | 0 | open 8716 / g 8716 8722 1 0 flushed / marks 8722 8722 8722 8704
 same | recover |                | 0 | read 1 8722 / p 3 8722 (00*62)0709
-same | dump    |                | 0 | store 4096 8 1 2048 8 / checkpoint 2 8704 / block 8704 18 18 12 0 / group 8716 8722 1 / rec b1 3 101 9 / end 8722
+same | dump    |                | 0 | store 4096 8 1 2048 128 / checkpoint 2 8704 / block 8704 18 18 12 0 / group 8716 8722 1 / rec b1 3 101 9 / end 8722
 ",
     )
 }

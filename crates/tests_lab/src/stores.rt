@@ -48,9 +48,9 @@ log of 8      | recover    |                | 10 | fault fit log 1050624
 same          | dump --why |                | 10 | fault fit log 1050624
 same          | crash      | 1 f b1 3 100 7 | 10 | fault fit log 1050624
 new           | format     |                |  0 | formatted 8192
-data of 120   | recover    |                | 10 | fault fit store 65536
-same          | dump       |                | 10 | fault fit store 65536
-same          | run        | 1 f b1 3 100 7 | 10 | fault fit store 65536
+data of 120   | recover    |                | 10 | fault fit store 557056
+same          | dump       |                | 10 | fault fit store 557056
+same          | run        | 1 f b1 3 100 7 | 10 | fault fit store 557056
 new           | format     |                |  0 | formatted 8192
 other format  | recover    |                |  8 | fault store format 9
 same          | dump       |                |  8 | fault store format 9
@@ -94,7 +94,7 @@ copy ahead  | recover                        |                | 0 | read 1 8210 
 same        | crash --stop-data 12 --pick 15 | 2 f b1 4 100 8 | 8 | fault store ahead 5 9000
 new         | format                         |                | 0 | formatted 8192
 high number | run                            | 1 f b1 3 100 7 | 0 | open 8204 / g 8204 8210 1 0 flushed / marks 8210 8210 8210 8192
-same        | dump                           |                | 0 | store 4096 8 1 2048 8 / checkpoint 9223372036854775809 8192 / block 8192 17 18 12 0 / group 8204 8210 1 / rec b1 3 100 7 / end 8210
+same        | dump                           |                | 0 | store 4096 8 1 2048 128 / checkpoint 9223372036854775809 8192 / block 8192 17 18 12 0 / group 8204 8210 1 / rec b1 3 100 7 / end 8210
 new         | format                         |                | 0 | formatted 8192
 high lsn    | crash                          | 1 f b1 3 100 7 | 0 | open 1152921503533105164 / g 1152921503533105164 1152921503533105170 1 0 flushed / marks 1152921503533105170 1152921503533105170 1152921503533105170 1152921503533105152 / recovered 1 1152921503533105170 / p 3 1152921503533105170 (00*62)07
 ",

@@ -27,7 +27,7 @@ fn ends_before_a_block_that_is_torn(rt: HostRuntime) -> Result<(), Fail> {
         "
 tearing | crash --log-only --turns 26 --stop-log @ --pick 5 | 1 f s 3 38 (07*489) / 2 f s 4 38 (08*489) / 3 f s 5 38 (09*489) / | 0 | open 8204 / g 8204 8716 1 0 lost / g 8716 9228 2 0 lost / g 9228 9740 3 0 lost / marks 9740 8204 8204 8192 / recovered 1 8716 / p 3 8716 (07*489)
 same    | run --log-only                                    | 1 f s 3 38 (06*489) | 0 | open 8716 / g 8716 9228 1 0 flushed / marks 9228 9228 9228 8704
-same    | dump --why                                        |                     | 0 | store 4096 8 1 2048 8 / checkpoint 2 8704 / block 8704 18 512 12 2 / stop 9216 number / group 8716 9228 1 / rec s 3 38 (06*489) / end 9228
+same    | dump --why                                        |                     | 0 | store 4096 8 1 2048 128 / checkpoint 2 8704 / block 8704 18 512 12 2 / stop 9216 number / group 8716 9228 1 / rec s 3 38 (06*489) / end 9228
 same    | recover                                           |                     | 0 | read 1 9228 / p 3 9228 (06*489)
 ",
     )

@@ -204,7 +204,7 @@ pub fn torn_store(alloc: Global, format: Format) -> Result<Store, Fail> {
 pub fn torn_pages(format: Format) -> &'static str {
     match format {
         Format::One => "3 [0 532498 7;1 532492 5;2 9000 8;]",
-        Format::Two => "3 [0 531474 7;1 531468 5;2 9000 8;]",
+        _ => "3 [0 531474 7;1 531468 5;2 9000 8;]",
     }
 }
 

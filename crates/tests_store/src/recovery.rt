@@ -1,13 +1,21 @@
 // Stores that are recovered, and damaged ones that are not.
 use crate::fixtures::{full, see, told, told_on, torn_store};
 use crate::store::{Flaw, NEVER, SOUND, Store};
-use model_base::Shape;
+use model_base::{DEFAULT_LOG_BLOCKS, DEFAULT_PAGES, DEFAULT_SPACE, EARLY_SLOTS, PAGE_SIZE, Shape};
 use redo_header::Format;
 use std::alloc::{AllocError, Global};
 use std::process::Abort;
 use std::test::Fail;
 
-/// Bytes of a log device of the default shape.
+/// The default sizes of a store of format 1 or 2.
+const SHAPE: Shape = Shape {
+    page_size: PAGE_SIZE,
+    pages: DEFAULT_PAGES,
+    space: DEFAULT_SPACE,
+    log_blocks: DEFAULT_LOG_BLOCKS,
+    slots: EARLY_SLOTS,
+};
+/// Bytes of a log device of these sizes.
 const LOG: u64 = 1_050_624;
 /// Bytes of a data device.
 const DATA: u64 = 65_536;
@@ -38,7 +46,8 @@ const HEADER: &str = "\
     log 510 1           | NotFormatted
     sealed 20 1 1       | 1 8722 8600
     sealed 2 0 2        | NoCheckpoint
-    sealed 2 0 3        | BadFormat(3)
+    sealed 2 0 3        | NotFormatted
+    sealed 2 0 4        | BadFormat(4)
     sealed 0 1 0        | BadFormat(16777217)
     sealed 4 1 1        | 1 8722 8600
     sealed 14 32 1      | NotFormatted
@@ -57,7 +66,7 @@ const HEADER: &str = "\
     sealed 2 0 9, head 2 1 | BadFormat(9)
     log 20 1, head 2 1  | 1 8722 8600
     log 20 1, head 2 2  | NoCheckpoint
-    log 20 1, head 2 2, sealed 1026 0 3 | BadFormat(3)
+    log 20 1, head 2 2, sealed 1026 0 4 | BadFormat(4)
     log_sectors 2       | SmallLog(2048)
     log_sectors 3       | SmallLog(2048)
     log_sectors 8       | SmallLog(1050624)
@@ -115,8 +124,9 @@ const HEADS: &str = "\
     log 20 1, log 1044 1 | NotFormatted
     log 20 1, head 2 1  | NoCheckpoint
     head 0 1            | NoCheckpoint
-    sealed 2 0 3        | BadFormat(3)
-    log 20 1, sealed 1026 0 3 | BadFormat(3)
+    sealed 2 0 3        | NotFormatted
+    sealed 2 0 4        | BadFormat(4)
+    log 20 1, sealed 1026 0 4 | BadFormat(4)
     log 512 1, log 1536 1 | NoCheckpoint
     log_sectors 3       | SmallLog(2048)
     log_sectors 2051    | SmallLog(1050624)";
@@ -200,7 +210,7 @@ fn text_of(name: &str) -> Option<(&'static [u8], usize)> {
 /// A sound store of the default shape and of this format. The checkpoint 0 is at 8,192 and 1 at 8,704, with a full block at the first and a group
 /// of 6 bytes at the second. Page 5 has the lsn 8,600 in its place and 8,500 in slot 1; the other pages were never written.
 fn sound_store(alloc: Global, format: Format) -> Result<Store, AllocError> {
-    let shape = Shape::default_shape();
+    let shape = SHAPE;
     let mut store = Store::filled(alloc, 0, 8192, DATA as usize)?;
     store.format = format;
     store.log_length = LOG;
@@ -255,7 +265,7 @@ fn put_text(store: &mut Store, change: &Change<'_>) -> bool {
     if change.kind == "tail" {
         store.put_tail(at, u64::from(lsn), text, true);
     } else if 8192 <= at {
-        store.put_in_place(&Shape::default_shape(), 1, u64::from(at), text, true);
+        store.put_in_place(&SHAPE, 1, u64::from(at), text, true);
     }
     true
 }
@@ -270,9 +280,9 @@ fn make(store: &mut Store, change: &Change<'_>) -> bool {
         "data" => store.put_page_byte(at, second, low(third)),
         "page" => store.put_page(at, u32::from(second), u64::from(third), 3),
         "head" if second == 1 => {
-            store.put_head_block(at, Format::One, &Shape::default_shape());
+            store.put_head_block(at, Format::One, &SHAPE);
         }
-        "head" => store.put_head_block(at, Format::Two, &Shape::default_shape()),
+        "head" => store.put_head_block(at, Format::Two, &SHAPE),
         "log_sectors" => store.log_length = 512 * u64::from(at),
         "data_sectors" => store.data_length = 512 * u64::from(at),
         "tail" | "place" => return put_text(store, change),

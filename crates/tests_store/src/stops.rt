@@ -103,7 +103,7 @@ fn see_log_stops(
 fn torn_kept(format: Format) -> Kept<'static> {
     let start = match format {
         Format::One => "(0, 0, None, 533004)",
-        Format::Two => "(0, 0, None, 531980)",
+        _ => "(0, 0, None, 531980)",
     };
     Kept {
         pages: torn_pages(format),

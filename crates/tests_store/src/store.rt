@@ -127,12 +127,12 @@ impl Store {
         Ok((log, data))
     }
 
-    /// Writes the header of a store of these sizes: into block 0, and in format 2 also into block 2.
+    /// Writes the header of a store of these sizes: into block 0, and but for format 1 also into block 2.
     pub fn put_head(&mut self, shape: &Shape) {
         self.put_head_block(0, self.format, shape);
         match self.format {
             Format::One => {}
-            Format::Two => self.put_head_block(2, Format::Two, shape),
+            format => self.put_head_block(2, format, shape),
         }
     }
 
@@ -164,7 +164,8 @@ impl Store {
         requires small { lsn ≤ 1048576 }
     {
         match self.format {
-            Format::Two if bytes.len() < 496 => self.put_tail(4, lsn, bytes, has_group),
+            Format::One => self.put_in_place(shape, number, lsn, bytes, has_group),
+            _ if bytes.len() < 496 => self.put_tail(4, lsn, bytes, has_group),
             _ => self.put_in_place(shape, number, lsn, bytes, has_group),
         }
     }

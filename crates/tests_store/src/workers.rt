@@ -3,7 +3,7 @@ ghost use Rattle.std.specs.Prelude.{◌≤◌};
 
 use crate::fixtures::{told_of, torn_pages, torn_store};
 use crate::store::Store;
-use model_base::Shape;
+use model_base::{EARLY_SLOTS, Shape};
 use redo_header::Format;
 use redo_memdisk::MemDisk;
 use redo_recover::{RecFault, Recovered, recover_with};
@@ -16,7 +16,10 @@ const TWO_PAGES: [u8; 13] = [1, 1, 3, 0, 100, 7, 1, 1, 4, 0, 100, 8, 0x1F];
 
 /// A store of the default sizes with blank pages, whose log has this group alone.
 fn two_pages(alloc: Global) -> Result<Store, AllocError> {
-    let shape = Shape::default_shape();
+    let shape = Shape {
+        slots: EARLY_SLOTS,
+        ..Shape::default_shape()
+    };
     let mut store = Store::filled(alloc, 0, 4096, 65_536)?;
     store.log_length = 1_050_624;
     store.put_head(&shape);

@@ -93,7 +93,7 @@ const FORMAT: &str =
 const FORMATS: &str = "\
 format                                               | 8  1          2048    false
 format --pages 1                                     | 1  1          2048    false
-format --pages 64                                    | 64 1          2048    false
+format --pages 1024                                  | 1024 1        2048    false
 format --space 0                                     | 8  0          2048    false
 format --space 4294967295                            | 8  4294967295 2048    false
 format --log-blocks 1024                             | 8  1          1024    false

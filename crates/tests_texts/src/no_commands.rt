@@ -149,7 +149,7 @@ restore --to 8210 --archive
 restore --to 8210 --workers 1
 format 1
 format --pages 0
-format --pages 65
+format --pages 1025
 format --pages
 format --pages 1 --pages 1
 format --space 4294967296

@@ -29,7 +29,7 @@ const LOG: u64 = 1_050_624;
 pub const LOG_CALLS: u64 = 4 + 1 + (2 + 1) + (16 + 1) + 2;
 
 /// Bytes of the data device: the slots, and the places of eight pages.
-const DATA: u64 = 65_536;
+const DATA: u64 = 557_056;
 
 /// How many calls of the data device it makes: the slots and eight places are read, and there is a sync.
 pub const DATA_CALLS: u64 = (1 + 8) + 1;
