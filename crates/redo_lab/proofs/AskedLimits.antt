@@ -3,9 +3,11 @@ use Rattle.std.proofs.Common.{ℕ, ◌≡◌, ◌≤◌, ◌-◌, ◌^◌, ◌&&
 use Rattle.std.proofs.lemmas.Bool.{false≢true}
 use Rattle.std.specs.Option.{option_map, option_and_then}
 use Rattle.std.specs.Str.{bytes_eq}
-use Rattle.model_base.specs.declared.limits.TheConstants.{DEFAULT_LOG_BLOCKS, DEFAULT_PAGES, DEFAULT_SPACE, MAX_LOG_BLOCKS, MAX_PAGES, MIN_LOG_BLOCKS}
+use Rattle.model_base.proofs.ShapeLimits.{default_page_size, page_size_test}
+use Rattle.model_base.specs.{is_page_size, IsPageSize}
+use Rattle.model_base.specs.declared.limits.TheConstants.{DEFAULT_LOG_BLOCKS, DEFAULT_PAGES, DEFAULT_SPACE, MAX_LOG_BLOCKS, MAX_PAGES, MIN_LOG_BLOCKS, PAGE_SIZE}
 use Rattle.model_script.specs.Commands as commands
-use Rattle.model_script.specs.{are_among, are_different, asked_of, given_crash, drive_names, given_drive, given_followers, given_format, given_gen, given_number, given_run, number_or, number_within, is_given, plain_command, said_from, where_allowed, given_workers}
+use Rattle.model_script.specs.{are_among, are_different, asked_of, given_crash, drive_names, given_drive, given_followers, given_format, given_gen, given_number, given_run, number_or, number_within, page_size_or, is_given, plain_command, said_from, where_allowed, given_workers}
 use Rattle.model_script.specs.declared.asked.Asked.{Asked}
 use Rattle.model_script.specs.declared.asked.Command.{Command}
 use Rattle.model_script.specs.declared.asked.Command.TheVariants.{Run, Recover, Dump, Restore}
@@ -60,6 +62,15 @@ or-between : (least greatest default m : ℕ) (o : Option ℕ) → IsBetween lea
 or-between least greatest default m None between is = let same : default ≡ m = cc in (omega arith, omega arith)
 or-between least greatest default m (Some n) between is = within-between least greatest n m is
 
+-- so many bytes a page may have
+if-page_size : (n m : ℕ) (passes : Bool) → is_page_size n ≡ passes → (if passes then Some n else None) ≡ Some m → IsPageSize m
+if-page_size n m true tested is = let same : n ≡ m = cc in subst IsPageSize same (page_size_test n tested)
+if-page_size n m false tested is = cc
+
+or-page_size : (m : ℕ) (o : Option ℕ) → page_size_or o ≡ Some m → IsPageSize m
+or-page_size m None is = let same : PAGE_SIZE ≡ m = cc in subst IsPageSize same default_page_size
+or-page_size m (Some n) is = if-page_size n m _ refl is
+
 allowed-some : (among different : Bool) (o : Option Command) (command : Command) → (if among && different then o else None) ≡ Some command → o ≡ Some command
 allowed-some true true o command is = is
 allowed-some true false o command is = cc
@@ -70,13 +81,14 @@ allowed-command names options o command is = allowed-some (are_among names optio
 
 format-within : (options : List Given) (command : Command) → given_format options ≡ Some command → HasAllowedNumbers command
 format-within options command is =
-    let pages = and_then-some _ (number_or 1 MAX_PAGES DEFAULT_PAGES (given_number name.Pages options)) command is in
+    let size = and_then-some _ (page_size_or (given_number name.PageSize options)) command is in
+    let pages = and_then-some _ (number_or 1 MAX_PAGES DEFAULT_PAGES (given_number name.Pages options)) command size.2 in
     let space = and_then-some _ (number_or 0 (2 ^ 32 - 1) DEFAULT_SPACE (given_number name.Space options)) command pages.2 in
     let blocks = map-some _ (number_or MIN_LOG_BLOCKS MAX_LOG_BLOCKS DEFAULT_LOG_BLOCKS (given_number name.LogBlocks options)) command space.2 in
     let some : IsBetween 1 MAX_PAGES pages.0 = or-between 1 MAX_PAGES DEFAULT_PAGES pages.0 (given_number name.Pages options) (lit≤ tt, lit≤ tt) pages.1 in
     let many : IsBetween MIN_LOG_BLOCKS MAX_LOG_BLOCKS blocks.0 =
     or-between MIN_LOG_BLOCKS MAX_LOG_BLOCKS DEFAULT_LOG_BLOCKS blocks.0 (given_number name.LogBlocks options) (lit≤ tt, lit≤ tt) blocks.1 in
-    subst HasAllowedNumbers blocks.2 (some.0, some.1, many.0, many.1)
+    subst HasAllowedNumbers blocks.2 (or-page_size size.0 (given_number name.PageSize options) size.1, some.0, some.1, many.0, many.1)
 
 -- the drive's followers are few, and it archives its run just where that is asked
 abbrev IsDriveOf : Bool → Drive → Type 0
@@ -143,7 +155,7 @@ plain-within false false false false false true format run crash recover dump re
 plain-within false false false false false false format run crash recover dump restore command a b c d e f is = cc
 
 abbrev format_names : List Name
-format_names = name.Pages ∷ name.Space ∷ name.LogBlocks ∷ []
+format_names = name.PageSize ∷ name.Pages ∷ name.Space ∷ name.LogBlocks ∷ []
 
 abbrev run_names : List Name
 run_names = name.Archive ∷ drive_names

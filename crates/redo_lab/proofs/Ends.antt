@@ -177,7 +177,7 @@ legal-on call command drive opened script (Some run) follows end log_met store_m
 -- what is left of a command that runs a script
 pub leaves-run : (call : LabCall) (command : Command) → runs_script command ≡ true → IsUnprepared call ⊎ AreOfRun call command
     → LeavesFailed call command
-leaves-run call (Format pages space log_blocks) runs left = absurd (false≢true runs)
+leaves-run call (Format page_size pages space log_blocks) runs left = absurd (false≢true runs)
 leaves-run call (Run drive) runs left = λ _. left
 leaves-run call (Crash drive stop_log stop_data pick workers) runs left = λ _. left
 leaves-run call (Recover workers) runs left = λ _. left

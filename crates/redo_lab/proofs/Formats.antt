@@ -88,13 +88,13 @@ module _ {L D : Type 0} (log_seen : L → Seen) (log_gives : L → Call → L �
   format-fails to (PageAhead p lsn) calls cause = absurd cause
 
 -- THE COMMAND.
-module _ (call : LabCall) (pages space log_blocks : ℕ) (unread : call.source_now ≡ call.source)
-    (kept : LeavesFailed call (Format pages space log_blocks)) where
+module _ (call : LabCall) (page_size pages space log_blocks : ℕ) (unread : call.source_now ≡ call.source)
+    (kept : LeavesFailed call (Format page_size pages space log_blocks)) where
   abbrev asked : Command
-  asked = Format pages space log_blocks
+  asked = Format page_size pages space log_blocks
 
   abbrev shape : Shape
-  shape = asked_shape pages space log_blocks
+  shape = asked_shape page_size pages space log_blocks
 
   abbrev Since : ℕ → ℕ → Type 0
   Since log_failed data_failed = IsUnarmed log_failed call.log × IsUnarmed data_failed call.store

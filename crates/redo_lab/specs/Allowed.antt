@@ -5,7 +5,7 @@ use Rattle.model_script.specs.declared.asked.Command.{Command}
 use Rattle.model_script.specs.declared.asked.Command.TheVariants.{Format, Run, Crash, Recover, Gen}
 use Rattle.model_script.specs.declared.words.TheConstants.{MAX_FOLLOWERS, MAX_WORKERS}
 use Rattle.model_script.specs.declared.misfit.TheConstants.{MAX_USERS}
-use Rattle.model_base.specs.{HasRisen}
+use Rattle.model_base.specs.{HasRisen, IsPageSize}
 use Rattle.model_report.specs.declared.fault.Fault.{Fault}
 use Rattle.model_report.specs.declared.fault.Fault.TheVariants.{Memory, Source, Fit}
 use Rattle.model_report.specs.declared.fault.Fault.TheVariants as fault
@@ -18,8 +18,8 @@ runs_in_threads command = elim (drive_of command) [ None ↦ false | Some drive 
 
 -- the numbers of the command are within its limits, and it archives nothing but the run of a script
 abbrev pub HasAllowedNumbers : Command → Type 0
-HasAllowedNumbers (Format pages space log_blocks) =
-    (1 ≤ pages) × (pages ≤ MAX_PAGES) × (MIN_LOG_BLOCKS ≤ log_blocks) × (log_blocks ≤ MAX_LOG_BLOCKS)
+HasAllowedNumbers (Format page_size pages space log_blocks) =
+    IsPageSize page_size × (1 ≤ pages) × (pages ≤ MAX_PAGES) × (MIN_LOG_BLOCKS ≤ log_blocks) × (log_blocks ≤ MAX_LOG_BLOCKS)
 HasAllowedNumbers (Run drive) = drive.followers ≤ MAX_FOLLOWERS
 HasAllowedNumbers (Crash drive stop_log stop_data pick workers) =
     (drive.followers ≤ MAX_FOLLOWERS) × (drive.archive ≡ false) × (1 ≤ workers) × (workers ≤ MAX_WORKERS)

@@ -21,8 +21,9 @@ use Rattle.redo_lab.specs.Archived.{IsReportWith}
 use Rattle.redo_lab.specs.Told.{IsRunText, IsSummaryText}
 
 -- the sizes that the words of `format` ask for
-abbrev pub asked_shape : (pages space log_blocks : ℕ) → Shape
-asked_shape pages space log_blocks = record default_shape { pages = pages; space = space; log_blocks = log_blocks }
+abbrev pub asked_shape : (page_size pages space log_blocks : ℕ) → Shape
+asked_shape page_size pages space log_blocks =
+    record default_shape { page_size = page_size; pages = pages; space = space; log_blocks = log_blocks }
 
 -- both devices were formatted: whatever a crash would leave is a new store
 pub record IsFormatAnswer (call : LabCall) (shape : Shape) (text : List ℕ) : Type 0 where
@@ -51,7 +52,7 @@ pub record IsRestoredText (call : LabCall) (to : ℕ) (text : List ℕ) : Type 0
 
 -- A command that was done has this text to print.
 abbrev pub IsAnswer : LabCall → Command → List ℕ → Type 0
-IsAnswer call (Format pages space log_blocks) text = IsFormatAnswer call (asked_shape pages space log_blocks) text
+IsAnswer call (Format page_size pages space log_blocks) text = IsFormatAnswer call (asked_shape page_size pages space log_blocks) text
 IsAnswer call (Run drive) text = IsRunText call (Run drive) drive (IsReportWith (λ mark flushed. mark ≡ flushed) call drive) text
 IsAnswer call (Crash drive stop_log stop_data pick workers) text = CrashSafe call drive stop_log stop_data pick workers text
 IsAnswer call (Recover workers) text = IsReadOff call (λ reading text. text ≡ recover_text reading) text

@@ -180,11 +180,12 @@ pub(crate) fn done<R: Threads + Sync, S: Source, L: Sectors, D: Sectors, A: Sect
 {
     match command {
         Command::Format {
+            page_size,
             pages,
             space,
             log_blocks,
         } => (
-            format_devices(alloc, pages, space, log_blocks, log, store),
+            format_devices(alloc, page_size, pages, space, log_blocks, log, store),
             arch,
         ),
         Command::Run { drive } => {

@@ -12,10 +12,11 @@ pub const STORE_LENGTH: u64 = 557_056;
 pub const ARCHIVE_LENGTH: u64 = 16_777_216;
 
 /// The sizes that the words of `format` ask for.
-pub(crate) fn shape_of(pages: u32, space: u32, log_blocks: u32) -> Shape
-    ensures { result ≡ asked_shape pages space log_blocks }
+pub(crate) fn shape_of(page_size: u32, pages: u32, space: u32, log_blocks: u32) -> Shape
+    ensures { result ≡ asked_shape page_size pages space log_blocks }
 {
     Shape {
+        page_size,
         pages,
         space,
         log_blocks,

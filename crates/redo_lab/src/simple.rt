@@ -25,21 +25,23 @@ use std::thread::Threads;
 /// Formats both devices.
 pub(crate) fn format_devices<L: Sectors, D: Sectors>(
     alloc: Global,
+    page_size: u32,
     pages: u32,
     space: u32,
     log_blocks: u32,
     log: L,
     store: D,
 ) -> Done<L, D>
-    requires { IsWithinLimits (asked_shape pages space log_blocks) }
+    requires { IsWithinLimits (asked_shape page_size pages space log_blocks) }
     ensures ends { (words : List (List ℕ)) (archive : Unfused) (source : SourceSeen)
-        → EndsWith (call_on L.seen L.gives D.seen D.gives words archive source source log store result.log result.store) (Format pages space log_blocks) result.outcome }
+        → EndsWith (call_on L.seen L.gives D.seen D.gives words archive source source log store result.log result.store) (Format page_size pages space log_blocks) result.outcome }
     ensures entered { AreOf log store result.log result.store }
 {
     laws();
     let mut log = Fused::plain(log);
     let mut store = Fused::plain(store);
-    let outcome = match format(&mut log, &mut store, &shape_of(pages, space, log_blocks)) {
+    let shape = shape_of(page_size, pages, space, log_blocks);
+    let outcome = match format(&mut log, &mut store, &shape) {
         Ok(()) => Outcome::of_text(formatted(alloc)),
         Err(fault) => Outcome::Fault(fault_of(fault)),
     };

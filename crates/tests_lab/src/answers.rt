@@ -25,16 +25,20 @@ fn refuses_calls(rt: HostRuntime) -> Result<(), Fail> {
     play(
         &rt,
         "
-new | crash                    | 1 x b1 3 100 7  |  3 | fault script line 1
-new | crash                    | 1 f b1 9 100 7  | 10 | fault fit page 9
-new | crash                    | 1 f b2 3 4087 7 | 10 | fault fit offset 4087
-new | crash                    | 17 f i 3        | 10 | fault fit user 17
-new | recover                  | 1 f b1 3 100 7  |  8 | fault store unformatted
-new | dump                     | 1 f b1 3 100 7  |  8 | fault store unformatted
-new |                          | 1 f b1 3 100 7  |  2 | fault words
-new | format --pages 9         | 1 f b1 3 100 7  | 10 | fault fit store 561152
-new | format --pages 64        | 1 f b1 3 100 7  | 10 | fault fit store 786432
-new | format --log-blocks 2049 | 1 f b1 3 100 7  | 10 | fault fit log 1051136
+new | crash                                 | 1 x b1 3 100 7  |  3 | fault script line 1
+new | crash                                 | 1 f b1 9 100 7  | 10 | fault fit page 9
+new | crash                                 | 1 f b2 3 4087 7 | 10 | fault fit offset 4087
+new | crash                                 | 17 f i 3        | 10 | fault fit user 17
+new | recover                               | 1 f b1 3 100 7  |  8 | fault store unformatted
+new | dump                                  | 1 f b1 3 100 7  |  8 | fault store unformatted
+new |                                       | 1 f b1 3 100 7  |  2 | fault words
+new | format --pages 9                      | 1 f b1 3 100 7  | 10 | fault fit store 561152
+new | format --pages 64                     | 1 f b1 3 100 7  | 10 | fault fit store 786432
+new | format --log-blocks 2049              | 1 f b1 3 100 7  | 10 | fault fit log 1051136
+new | format --page-size 16384              | 1 f b1 3 100 7  | 10 | fault fit store 2228224
+new | format --page-size 16384 --pages 2    | 1 f b1 3 100 7  | 10 | fault fit store 2129920
+new | format --page-size 16384 --pages 1024 | 1 f b1 3 100 7  | 10 | fault fit store 18874368
+new | format --page-size 8192               | 1 f b1 3 100 7  |  2 | fault words
 ",
     )
 }

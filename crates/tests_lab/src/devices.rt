@@ -37,6 +37,9 @@ const PAGE: u64 = 4096;
 /// Where the place of page 5 stands: after 128 slots and five places.
 const PLACE: u64 = 133 * PAGE;
 
+/// Bytes of a data device on which a store of eight pages of 16,384 bytes has room.
+const LARGE_STORE: u64 = 2_228_224;
+
 /// Bytes of the archive's device.
 const ARCHIVE: u64 = 65_536;
 
@@ -66,6 +69,13 @@ pub(crate) type MemDevices = Devices<MemDisk, MemDisk>;
 pub(crate) fn blank(alloc: Global) -> Result<MemDevices, AllocError> {
     let log = MemDisk::new(alloc, LOG_LENGTH)?;
     let store = MemDisk::new(alloc, STORE_LENGTH)?;
+    Devices::of(alloc, log, store)
+}
+
+/// Devices that hold zeros, of which the data device has room for large pages.
+fn with_large_store(alloc: Global) -> Result<MemDevices, AllocError> {
+    let log = MemDisk::new(alloc, LOG_LENGTH)?;
+    let store = MemDisk::new(alloc, LARGE_STORE)?;
     Devices::of(alloc, log, store)
 }
 
@@ -303,12 +313,13 @@ pub(crate) fn change(devices: &mut MemDevices, name: &str) -> Result<(), DevErro
     }
 }
 
-/// New devices; those of `tearing` tear the sectors that a crash loses, and so do those of `log fails CALL`,
-/// `data fails CALL` or `archive fails CALL`, of which one fails a call.
+/// New devices, of which `large data` has a longer data device. Those of `tearing` tear the sectors that a crash loses, and so
+/// do those of `log fails CALL`, `data fails CALL` or `archive fails CALL`, of which one fails a call.
 pub(crate) fn new_devices(alloc: Global, name: &str) -> Result<MemDevices, Fail> {
     let Some((device, call)) = name.split_once(" fails ") else {
         let devices = match name {
             "tearing" => tearing(alloc)?,
+            "large data" => with_large_store(alloc)?,
             _ => blank(alloc)?,
         };
         return Ok(devices);

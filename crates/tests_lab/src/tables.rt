@@ -1,7 +1,7 @@
 // Tables of calls. A row is `DEVICES | WORDS | SCRIPT | STATUS | PRINTED`.
 //
-// DEVICES: `new`, `tearing`, `log fails CALL`, `data fails CALL` and `archive fails CALL` are new ones, `same` are those that the row
-// above left.
+// DEVICES: `new`, `large data`, `tearing`, `log fails CALL`, `data fails CALL` and `archive fails CALL` are new ones, `same` are
+// those that the row above left.
 // `in pieces`, `source fails` and `sink fails` are new ones too, and say how the script comes and the report goes.
 // `log of SECTORS`, `data of SECTORS` and `archive of SECTORS` cut one of those that were left, and any other name is a change of
 // them (`change`).
@@ -130,7 +130,7 @@ pub(crate) fn left_of<L: Sectors + Send + Drop, D: Sectors + Send + Drop>(
 
 /// The devices of a row, after a row that left these.
 fn devices_of(alloc: Global, name: &str, left: MemDevices) -> Result<MemDevices, Fail> {
-    let is_new = name == "new" || name == "tearing" || name == "in pieces";
+    let is_new = name == "new" || name == "large data" || name == "tearing" || name == "in pieces";
     if is_new || name.contains("fails") {
         return new_devices(alloc, name);
     }

@@ -88,17 +88,21 @@ restore --to=00000000000000008210 | 8210                 false
 ";
 
 const FORMAT: &str =
-    "Ok(Asked { command: Format { pages: *, space: *, log_blocks: * }, files: * })";
+    "Ok(Asked { command: Format { page_size: *, pages: *, space: *, log_blocks: * }, files: * })";
 
 const FORMATS: &str = "\
-format                                               | 8  1          2048    false
-format --pages 1                                     | 1  1          2048    false
-format --pages 1024                                  | 1024 1        2048    false
-format --space 0                                     | 8  0          2048    false
-format --space 4294967295                            | 8  4294967295 2048    false
-format --log-blocks 1024                             | 8  1          1024    false
-format --log-blocks 1048576                          | 8  1          1048576 false
-format --space=2 --pages=3 --files --log-blocks=4096 | 3  2          4096    true
+format                                               | 4096  8    1          2048    false
+format --page-size 4096                              | 4096  8    1          2048    false
+format --page-size 16384                             | 16384 8    1          2048    false
+format --page-size=16384 --files                     | 16384 8    1          2048    true
+format --page-size 00016384 --pages 1024             | 16384 1024 1          2048    false
+format --pages 1                                     | 4096  1    1          2048    false
+format --pages 1024                                  | 4096  1024 1          2048    false
+format --space 0                                     | 4096  8    0          2048    false
+format --space 4294967295                            | 4096  8    4294967295 2048    false
+format --log-blocks 1024                             | 4096  8    1          1024    false
+format --log-blocks 1048576                          | 4096  8    1          1048576 false
+format --space=2 --pages=3 --files --log-blocks=4096 | 4096  3    2          4096    true
 ";
 
 const GEN: &str =
@@ -185,6 +189,8 @@ crash --own-writes --pick=1 --            | crash --pick 1 --own-writes
 crash --stop-data=0 --files --stop-log 0  | crash --stop-log 0 --stop-data 0 --files
 format --log-blocks=1024 --pages=64       | format --pages 64 --log-blocks 1024
 format --files --space=0 --               | format --space 0 --files
+format --pages 2 --page-size=16384        | format --page-size 16384 --pages 2
+format --page-size=4096                   | format
 gen -- 1 2 3                              | gen 1 2 3
 gen 1 -- 2 3                              | gen 1 2 3
 gen 1 2 -- 3                              | gen 1 2 3

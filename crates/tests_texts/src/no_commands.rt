@@ -152,6 +152,23 @@ format --pages 0
 format --pages 1025
 format --pages
 format --pages 1 --pages 1
+format --page-size 8192
+format --page-size 4097
+format --page-size 4095
+format --page-size 16383
+format --page-size 16385
+format --page-size 65536
+format --page-size 0
+format --page-size -4096
+format --page-size 4k
+format --page-size 4294971392
+format --page-size
+format --page-size=
+format --page-size 4096 --page-size 4096
+format --page_size 4096
+format --page 4096
+run --page-size 4096
+recover --page-size 16384
 format --space 4294967296
 format --space -1
 format --log-blocks 1023

@@ -13,9 +13,9 @@ pub returns-clause-ends : goal.returns-clause-ends
 returns-clause-ends g c = λ words archive source.
     let call = call_on g.L.Sectors.seen g.L.Sectors.gives g.D.Sectors.seen g.D.Sectors.gives words archive source source
     c.args.log c.args.store c.format.new.log c.format.new.data_device in
-    let shape = asked_shape c.args.pages c.args.space c.args.log_blocks in
+    let shape = asked_shape c.args.page_size c.args.pages c.args.space c.args.log_blocks in
     elim c.match-format.branch [
-      | in-Ok w ↦ rw (w.outcome-is, w.of_text-outcome.ensures) (format-ends call c.args.pages c.args.space c.args.log_blocks refl
+      | in-Ok w ↦ rw (w.outcome-is, w.of_text-outcome.ensures) (format-ends call c.args.page_size c.args.pages c.args.space c.args.log_blocks refl
           (kept-no-store call shape _ _ (λ on. ap (λ d. (g.L.Sectors.seen d).tells) c.plain-log.ensures.inner) (λ on. ap (λ d. (g.D.Sectors.seen d).tells) c.plain-store.ensures.inner)
           (rw c.shape_of.ensures at w.in-Ok.ensures.keeps)) _
           (formats-both g.L.Sectors.seen g.L.Sectors.gives g.D.Sectors.seen g.D.Sectors.gives c.args.log c.args.store (
@@ -28,7 +28,7 @@ returns-clause-ends g c = λ words archive source.
             unarmed-fresh g.L.Sectors.seen c.args.log c.plain-log.result c.plain-log.ensures.inner c.plain-log.ensures.fuse,
             unarmed-fresh g.D.Sectors.seen c.args.store c.plain-store.result c.plain-store.ensures.inner c.plain-store.ensures.fuse,
           )
-          (format-to call c.args.pages c.args.space c.args.log_blocks refl
+          (format-to call c.args.page_size c.args.pages c.args.space c.args.log_blocks refl
           (kept-no-store call shape _ _ (λ on. ap (λ d. (g.L.Sectors.seen d).tells) c.plain-log.ensures.inner) (λ on. ap (λ d. (g.D.Sectors.seen d).tells) c.plain-store.ensures.inner)
           (rw c.shape_of.ensures at w.in-Err.ensures.keeps)) (λ same. (
             alone-behind g.L.Sectors.seen c.args.log c.plain-log.result c.format.new.log c.plain-log.ensures.inner c.plain-log.ensures.fuse same.0,
