@@ -110,7 +110,8 @@ IsBeside marks (Some other) = (other.0 < marks.number) ⊎ IsAskedFor marks othe
 pub record LogHoldsWith (shape : Shape) (s : ℕ) (wholes : List Whole) (marks : LogMarks) (tails : TailMarks) (disk : Disk) : Type 0 where
   pub long : log_device_length shape ≤ length disk.base
   pub sectors : AreSectorWrites (length disk.base) disk.writes
-  pub heads : (k : ℕ) → IsHeadPlace k → (bytes : List ℕ) → MayStand disk k bytes → read_head bytes ≡ Good (run_format shape) shape
+  pub heads : (k : ℕ) → IsHeadPlace k → (bytes : List ℕ) → MayStand disk k bytes
+      → read_head bytes ≡ Good (run_format shape) shape
   pub order : AreInOrder (run_layout shape) s wholes marks
   pub kept : IsKeptMark s wholes marks tails
   pub blocks : (b : ℕ) → IsInRound (run_layout shape) marks.ckpt b → (bytes : List ℕ) → MayStand disk (sector_of (run_layout shape) b) bytes

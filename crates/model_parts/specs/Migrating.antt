@@ -29,7 +29,8 @@ IsMigrating shape number lsn old new =
     ⊎ ((erased marked : List ℕ) × IsErased (IsLogSector shape) old erased
     × IsPut (place_of number) (checkpoint_text number lsn (run_layout shape)) erased marked
     × IsPutting 2 (head_text (run_format shape) shape) marked new)
-    ⊎ ((headed : List ℕ) × IsNearlyMigrated shape number lsn old headed × IsPutting 0 (head_text (run_format shape) shape) headed new)
+    ⊎ ((headed : List ℕ) × IsNearlyMigrated shape number lsn old headed
+    × IsPutting 0 (head_text (run_format shape) shape) headed new)
 
 -- and once it is done
 pub record IsMigrated (shape : Shape) (number lsn : ℕ) (old new : List ℕ) : Type 0 where

@@ -32,8 +32,8 @@ pub record HasCheckpointFrom (shape : Shape) (lowest : ℕ) (log : List ℕ) : T
   pub newest : HasCheckpoint (run_format shape) shape number ckpt log
   pub from : lowest ≤ number
 
--- Opening came to its end: every fair image of the log device is of the format of runs, and has a newer checkpoint than stood there,
--- at its last good sync, when its fuse was armed.
+-- Opening came to its end: every fair image of the log device is of the format of runs, and has a newer checkpoint than
+-- stood there, at its last good sync, when its fuse was armed.
 pub record IsOpeningDone (shape : Shape) (armed_from disk : Disk) : Type 0 where
   pub format : Format
   pub number : ℕ

@@ -45,7 +45,8 @@ pub(crate) fn put_checkpoint<L: Sectors>(
 pub(crate) fn put_head<L: Sectors>(log: &mut L, k: u32, shape: &Shape) -> Result<(), DevError>
     requires { end_of_block k ≤ (L.seen log.old).size }
     ensures step { PutStep k (head_text (run_format shape.now) shape.now) (L.seen log.old) result (L.seen log.new) }
-    ensures calls { MakesCalls L.gives log.old log.new (Serve (put_requests (block_write k (head_text (run_format shape.now) shape.now))) (error_of result)) }
+    ensures calls { MakesCalls L.gives log.old log.new
+        (Serve (put_requests (block_write k (head_text (run_format shape.now) shape.now))) (error_of result)) }
 {
     let mut block = [0; 512];
     fill_head(&mut block, run_format(shape), shape);
