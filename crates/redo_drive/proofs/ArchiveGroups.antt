@@ -11,7 +11,7 @@ use Rattle.model_core.specs.LogSide.{LogSide}
 use Rattle.model_core.specs.Turn.{Turn}
 use Rattle.model_core.specs.declared.ops.Answer.{Answer}
 use Rattle.model_core.specs.declared.ops.Step.{Step}
-use Rattle.model_core.specs.{archives, Entry, filled, log_left, lsn, next, ReaderState}
+use Rattle.model_core.specs.{Entry, filled, log_left, lsn, next, ReaderState}
 use Rattle.model_log.specs.{IsRunOf}
 use Rattle.model_log.specs.declared.group.Whole.{Whole}
 use Rattle.model_logcore.specs.LogLaws.{LogLaws}

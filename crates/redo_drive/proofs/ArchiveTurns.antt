@@ -19,7 +19,8 @@ use Rattle.model_core.specs.declared.ops.Step.{Step}
 use Rattle.model_core.specs.declared.steps.ReaderStep.{ReaderStep}
 use Rattle.model_core.specs.declared.steps.ReaderStep.TheVariants as reader_step
 use Rattle.model_core.specs.declared.words.Word.TheVariants as word
-use Rattle.model_core.specs.{after_of, answer_of, archives, filled, flat, index, Listed, LostAt, lsn, next, next_mark, old_of, reader_op, reader_program, ReaderState}
+use Rattle.model_core.specs.{after_of, answer_of, archives, filled, flat, flushed_at, layout_of, Listed, LostAt, lsn, next, next_mark, old_of, reader_op, reader_program, ReaderState}
+use Rattle.model_core.specs.declared.words.Layout.{Layout}
 use Rattle.model_core.specs.{shared_left, SharedWords, took, words_left}
 use Rattle.model_ends.proofs.Sizes.{bytes_same, sn_within}
 use Rattle.model_ends.specs.Bound.{bytes_of, last_lsn}
@@ -54,7 +55,7 @@ use Rattle.redo_drive.specs.declared.parts.Parts.{Parts}
 module _ {L D : Type 0} {archive : Bool} (log_seen : L → Seen) (data_seen : D → Seen) (run : RunOf L D) (parts : Parts L D)
     (actors : List model.Actor) (R : RunsWith log_seen data_seen run archive parts actors) where
   abbrev pub flushed_in : ℕ
-  flushed_in = slice_index parts.words.words (index word.Flushed)
+  flushed_in = slice_index parts.words.words flushed_at
 
   pub flushed_word : flushed_in ≡ R.running.shared.flushed
   flushed_word = ap (λ (ws : List ℕ). slice_index ws 3) R.running.flat_is
@@ -105,12 +106,12 @@ appends_none r none = by r.checks r.step none
     by false _ none = tt
 
 -- and what a load of FLUSHED tells is the word
-module _ (ls : ℕ → List Listed) (broken : Bool) (code mark : ℕ) (ws : List ℕ) (place : IsDataLsn (slice_index ws 3)) where
-  hears : (r : ReaderState) → HearsFlushed (slice_index ws 3) r (answer_of ls broken code mark ws (next (model.Reader r)))
+module _ (layout : Layout) (ls : ℕ → List Listed) (broken : Bool) (code mark : ℕ) (ws : List ℕ) (place : IsDataLsn (slice_index ws 3)) where
+  hears : (r : ReaderState) → HearsFlushed (slice_index ws 3) r (answer_of layout ls broken code mark ws (next (model.Reader r)))
   hears r = by r.checks r.step
     where
       by : (b : Bool) (st : ReaderStep) → cond b (Unit {0})
-          (heard_at (slice_index ws 3) (old_of (answer_of ls broken code mark ws (cond b (op.Load word.Failed) (reader_op r st)))) st)
+          (heard_at (slice_index ws 3) (old_of (answer_of layout ls broken code mark ws (cond b (op.Load word.Failed) (reader_op r st)))) st)
       by true st = tt
       by false reader_step.LoadFlushed = (omega arith, place)
       by false reader_step.TakeDevice = tt
@@ -245,8 +246,9 @@ module _ {L D : Type 0} {archive : Bool} (log_seen : L → Seen) (data_seen : D 
       let there = next_words E F run.setup m W.log_ghost W.page_ghost (lists_of old.lists) old.log old.store actors seat
       W.both t.who t.who_is in
       let words : ◌≡◌ {A = List ℕ} new.words.words (flat (shared_left m (next t.who))) =
-      t.words ∙ ap (λ (ws : List ℕ). words_left ws (next t.who)) W.flat_is
-      ∙ flat_left run.setup.pages m W.both.logged.sized (next t.who) there in
+      t.words ∙ ap (λ (ws : List ℕ). words_left old.words.layout ws (next t.who)) W.flat_is
+      ∙ ap (λ (l : Layout). words_left l (flat m) (next t.who)) W.layout_is
+      ∙ flat_left (layout_of run.setup) m W.both.logged.sized (next t.who) there in
       let now : now_flushed ≡ (shared_left m (next t.who)).flushed = ap (λ (ws : List ℕ). slice_index ws 3) words in
       let old_is = flushed_word log_seen data_seen run old actors R in
       let rise = rises E F run.setup m W.log_ghost W.page_ghost (lists_of old.lists) old.log old.store actors seat W.both
@@ -370,13 +372,13 @@ module _ {L D : Type 0} {archive : Bool} (log_seen : L → Seen) (data_seen : D 
         turned here none =
             let r : ReaderState = S.archiver in
             let is = its here in
-            let said : ◌≡◌ {A = Answer} answer (answer_of (lists_of old.lists) (is_some old.log.failed) t.code
+            let said : ◌≡◌ {A = Answer} answer (answer_of old.words.layout (lists_of old.lists) (is_some old.log.failed) t.code
             new.log.marks.stable old.words.words (next (model.Reader r))) =
-            t.answered ∙ ap {B = Answer} (λ (a : model.Actor). answer_of (lists_of old.lists) (is_some old.log.failed) t.code
+            t.answered ∙ ap {B = Answer} (λ (a : model.Actor). answer_of old.words.layout (lists_of old.lists) (is_some old.log.failed) t.code
             new.log.marks.stable old.words.words (next a)) is in
             let heard : HearsFlushed before_flushed r answer =
             subst (λ (a : Answer). HearsFlushed before_flushed r a) (sym said)
-            (hears (lists_of old.lists) (is_some old.log.failed) t.code new.log.marks.stable old.words.words
+            (hears old.words.layout (lists_of old.lists) (is_some old.log.failed) t.code new.log.marks.stable old.words.words
             (flushed_place log_seen data_seen run old actors R) r) in
             make part (after_of reader_program (reader_filled r t.filling r.step) answer)
             (ap (get_elem? after) here ∙ reader_then r is)

@@ -31,13 +31,13 @@ page_of shape pairs users batch is i pair at =
     record { x = r.0; at = r.1; page = ap (λ (z : Fresh). z.page) r.2; lsn = ap (λ (z : Fresh). z.content.lsn) r.2 }
 
 module _ {D : Type 0} (seen : D → Seen) (faults : ℕ) (shape : Shape) (Begun : Type 0) where
-  pub may_write_batch : (c : Setup) (kept_page : ℕ → KeptPage) (unfinished batch : List BatchPage) (pairs : List (ℕ × ℕ)) (users : List ℕ) (d : Part D) → IsWithinLimits shape → shape.pages ≡ c.pages
+  pub may_write_batch : (c : Setup) (kept_page : ℕ → KeptPage) (unfinished batch : List BatchPage) (pairs : List (ℕ × ℕ)) (users : List ℕ) (d : Part D) → IsWithinLimits shape → shape.pages ≡ c.pages → shape.slots ≡ c.slots
       → HoldsPages seen faults shape Begun kept_page unfinished d → CanBatch (data_side seen faults shape Begun) c kept_page batch d → IsBatchOf shape pairs users batch
       → (d.failed ≡ None) × IsWritable d.shape pairs users
-  may_write_batch c kept_page unfinished batch pairs users d limits its_pages H C is = (
+  may_write_batch c kept_page unfinished batch pairs users d limits its_pages its_slots H C is = (
     not_failed d.failed C.sound,
     subst (λ (s : Shape). IsWritable s pairs users) (sym H.shape_is) (record {
-      few = (let a = C.few in let b : length pairs ≡ length batch = sym (length-batch_of shape pairs users) ∙ sym (ap length is.pages) ∙ fresh_length batch in let s = limits.slots in omega arith);
+      few = (let a = C.few in let b : length pairs ≡ length batch = sym (length-batch_of shape pairs users) ∙ sym (ap length is.pages) ∙ fresh_length batch in omega arith);
       count = is.count;
       below = λ i pair at. let p = page_of shape pairs users batch is i pair at in let t = (C.each i p.x p.at).there in let e = p.page in omega arith;
       small_lsn = λ i pair at. let p = page_of shape pairs users batch is i pair at in let t = (C.each i p.x p.at).small in let e = p.lsn in omega arith;

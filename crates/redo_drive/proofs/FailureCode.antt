@@ -1,8 +1,8 @@
 -- The code in FAILED has 32 bits.
 use Rattle.std.proofs.Common.{Bool, List, ap, arith, slice_index, ℕ, ⊎_elim, ◌<◌, ◌^◌, ◌≡◌}
 use native.Mathlib.Decide.{dec_le}
-use Rattle.model_core.specs.{Actor, index}
-use Rattle.model_core.specs.declared.words.Word.TheVariants as word
+use Rattle.model_core.specs.{Actor}
+use Rattle.model_core.specs.Layout.{failed_at}
 use Rattle.model_running.proofs.Archiving.{lost_small}
 use Rattle.redo_disk.specs.Seen.{Seen}
 use Rattle.redo_drive.proofs.Devices.{code_is_small}
@@ -11,10 +11,10 @@ use Rattle.redo_drive.specs.Running.{RunsWith}
 use Rattle.redo_drive.specs.declared.device.Device.TheVariants.{Data, Log}
 use Rattle.redo_drive.specs.declared.parts.Parts.{Parts}
 
-pub small_code : {L D : Type 0} {archive : Bool} (log_seen : L → Seen) (data_seen : D → Seen) (run : RunOf L D) (parts : Parts L D) (actors : List Actor) → RunsWith log_seen data_seen run archive parts actors → slice_index parts.words.words (index word.Failed) < 2 ^ 32
+pub small_code : {L D : Type 0} {archive : Bool} (log_seen : L → Seen) (data_seen : D → Seen) (run : RunOf L D) (parts : Parts L D) (actors : List Actor) → RunsWith log_seen data_seen run archive parts actors → slice_index parts.words.words failed_at < 2 ^ 32
 small_code log_seen data_seen run parts actors runs =
     let m = runs.running.shared in
-    let is : slice_index parts.words.words (index word.Failed) ≡ m.failed = ap (λ (ws : List ℕ). slice_index ws (index word.Failed)) runs.running.flat_is in
+    let is : slice_index parts.words.words failed_at ≡ m.failed = ap (λ (ws : List ℕ). slice_index ws failed_at) runs.running.flat_is in
     elim (dec_le 1 m.failed) [
       | yes met ↦ ⊎_elim
           (λ cause. let z = (code_is_small Log cause.fault).1 in let e = cause.code_is in omega arith)

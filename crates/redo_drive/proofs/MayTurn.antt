@@ -11,7 +11,7 @@ use Rattle.model_core.specs.Actors as model
 use Rattle.model_core.specs.AnswerFits.{AnswerFits}
 use Rattle.model_core.specs.DataSide.{DataSide}
 use Rattle.model_core.specs.Fitting.{Fitting}
-use Rattle.model_core.specs.{answer_of, BatchPage, KeptPage, lent, Listed, lsn, next, old_of, OpWords, shared_answer}
+use Rattle.model_core.specs.{answer_of, BatchPage, flat, KeptPage, layout_of, lent, Listed, lsn, next, old_of, OpWords, shared_answer}
 use Rattle.model_core.specs.{SharedWords, user_fits, user_op, UserState}
 use Rattle.model_core.specs.LogSide.{LogSide}
 use Rattle.model_core.specs.Setup.{Setup}
@@ -31,6 +31,7 @@ use Rattle.model_running.proofs.FlatWords.{flat_answer}
 use Rattle.model_running.proofs.InRun.{next_in_run}
 use Rattle.model_running.specs.ReadHalf.{ReadsInRun, StaysInRun}
 use Rattle.model_core.specs.{reader_op, ReaderState}
+use Rattle.model_core.specs.declared.words.Layout.{Layout}
 use Rattle.model_core.specs.declared.steps.ReaderStep.{ReaderStep}
 use Rattle.model_core.specs.declared.steps.ReaderStep.TheVariants as reader_step
 use Rattle.model_running.proofs.ListsReady.{list_ready}
@@ -66,26 +67,26 @@ use Rattle.model_core.specs.declared.steps.AdvanceStep.TheVariants as advance_st
 use Rattle.model_core.specs.declared.steps.UserStep.TheVariants as user_step
 
 -- a word holds the sum: a reservation adds to SN, which stays below its limit, and a user adds bytes onto lanes that are 0
-module _ (ls : ℕ → List Listed) (broken : Bool) (code mark : ℕ) (ws : List ℕ) where
-  user_sum : (u : UserState) (f : UserStep) → user_fits u (old_of (answer_of ls broken code mark ws (user_op u f))) f → HoldsSum (user_op u f) ws
+module _ (layout : Layout) (ls : ℕ → List Listed) (broken : Bool) (code mark : ℕ) (ws : List ℕ) where
+  user_sum : (u : UserState) (f : UserStep) → user_fits u (old_of (answer_of layout ls broken code mark ws (user_op u f))) f → HoldsSum layout (user_op u f) ws
   user_sum u (user_step.AdvanceWritten advance_step.LoadTail) fit = tt
   user_sum u (user_step.AdvanceClosed advance_step.LoadTail) fit = tt
   user_sum u user_step.Reserve fit = omega arith
   user_sum u user_step.AddCell fit = fit
   user_sum u _ fit = tt
 
-  checking_user : (b : Bool) (u : UserState) → cond {A = Type 0} b (Unit {0}) (user_fits u (old_of (answer_of ls broken code mark ws (cond b (op.Load word.Failed) (user_op u u.step)))) u.step)
-      → HoldsSum (cond b (op.Load word.Failed) (user_op u u.step)) ws
+  checking_user : (b : Bool) (u : UserState) → cond {A = Type 0} b (Unit {0}) (user_fits u (old_of (answer_of layout ls broken code mark ws (cond b (op.Load word.Failed) (user_op u u.step)))) u.step)
+      → HoldsSum layout (cond b (op.Load word.Failed) (user_op u u.step)) ws
   checking_user true u fit = tt
   checking_user false u fit = user_sum u u.step fit
 
-  other_sum : (o : Op) → IsNoAddition o → HoldsSum o ws
+  other_sum : (o : Op) → IsNoAddition o → HoldsSum layout o ws
   other_sum (op.Add w x) is = absurd is
   other_sum _ is = tt
 
-  pub holds_sum : (a : model.Actor) → Fitting a (answer_of ls broken code mark ws (next a)) → HoldsSum (next a) ws
+  pub holds_sum : (a : model.Actor) → Fitting a (answer_of layout ls broken code mark ws (next a)) → HoldsSum layout (next a) ws
   holds_sum a fit = ⊎_elim
-      (λ t. subst (λ (z : model.Actor). Fitting z (answer_of ls broken code mark ws (next z)) → HoldsSum (next z) ws) (sym t.1) (checking_user t.0.checks t.0) fit)
+      (λ t. subst (λ (z : model.Actor). Fitting z (answer_of layout ls broken code mark ws (next z)) → HoldsSum layout (next z) ws) (sym t.1) (checking_user t.0.checks t.0) fit)
       (λ t. other_sum (next a) t)
       (user_or_no_addition a)
 
@@ -138,7 +139,7 @@ module _ {L : Type 0} (seen : L → Seen) (faults number : ℕ) (Begun : Type 0)
   log_call _ l lends can place = tt
 
 -- the call of the data part
-module _ {D : Type 0} (seen : D → Seen) (faults : ℕ) (shape : Shape) (Begun : Type 0) (c : Setup) (its_pages : shape.pages ≡ c.pages) (its_page_size : shape.page_size ≡ c.page_size) (limits : IsWithinLimits shape)
+module _ {D : Type 0} (seen : D → Seen) (faults : ℕ) (shape : Shape) (Begun : Type 0) (c : Setup) (its_pages : shape.pages ≡ c.pages) (its_page_size : shape.page_size ≡ c.page_size) (its_slots : shape.slots ≡ c.slots) (limits : IsWithinLimits shape)
     (kept_page : ℕ → KeptPage) (d : store.Part D) where
   abbrev data_side : DataSide
   data_side = data_part.data_side seen faults shape Begun
@@ -153,7 +154,7 @@ module _ {D : Type 0} (seen : D → Seen) (faults : ℕ) (shape : Shape) (Begun 
   batch_ready (model.Batch batch) lending.Nothing lends can = absurd lends
   batch_ready (model.Batch batch) (lending.Blocks bytes firsts) lends can = absurd lends
   batch_ready (model.Batch batch) (lending.Batch pairs frames) lends can =
-      may_write_batch seen faults shape Begun c kept_page [] batch pairs.now frames.now d limits its_pages can.0 can.1
+      may_write_batch seen faults shape Begun c kept_page [] batch pairs.now frames.now d limits its_pages its_slots can.0 can.1
       (lent_batch shape batch pairs.now frames.now (whole_by batch can.1) lends.0 lends.1)
 
   pub data_call : (o : Op) (ml : model.Lent) (l : Lent) → Lends l ml → running.BatchReady data_side c kept_page ml d o → DataReady d l o
@@ -215,21 +216,22 @@ module _ {L D : Type 0} {archive : Bool} (log_seen : L → Seen) (data_seen : D 
     abbrev ls : ℕ → List Listed
     ls = lists_of parts.lists
 
-    words : OpWords c.pages (next who)
+    words : OpWords (layout_of c) (next who)
     words = let W = R.running in next_words A B c W.shared W.log_ghost W.page_ghost ls parts.log parts.store actors seat W.both who at
 
-    answer_is : (code mark : ℕ) → ◌≡◌ {A = Answer} (answer_of ls (is_some parts.log.failed) code mark parts.words.words (next who)) (shared_answer ls (is_some parts.log.failed) code mark R.running.shared (next who))
+    answer_is : (code mark : ℕ) → ◌≡◌ {A = Answer} (answer_of parts.words.layout ls (is_some parts.log.failed) code mark parts.words.words (next who)) (shared_answer ls (is_some parts.log.failed) code mark R.running.shared (next who))
     answer_is code mark = let W = R.running in
-        ap (λ (ws : List ℕ). answer_of ls (is_some parts.log.failed) code mark ws (next who)) W.flat_is
-        ∙ flat_answer c.pages W.shared W.both.logged.sized ls (is_some parts.log.failed) code mark (next who) words
+        ap (λ (ws : List ℕ). answer_of parts.words.layout ls (is_some parts.log.failed) code mark ws (next who)) W.flat_is
+        ∙ ap (λ (l : Layout). answer_of l ls (is_some parts.log.failed) code mark (flat W.shared) (next who)) W.layout_is
+        ∙ flat_answer (layout_of c) W.shared W.both.logged.sized ls (is_some parts.log.failed) code mark (next who) words
 
-    pub fits : (code mark : ℕ) → AnswerFits who (answer_of ls (is_some parts.log.failed) code mark parts.words.words (next who))
+    pub fits : (code mark : ℕ) → AnswerFits who (answer_of parts.words.layout ls (is_some parts.log.failed) code mark parts.words.words (next who))
     fits code mark = let W = R.running in
         subst (λ (r : Answer). AnswerFits who r) (sym (answer_is code mark))
         (answer_fits A B c W.shared W.log_ghost W.page_ghost ls parts.log parts.store actors seat W.both R.bytes codes (is_some parts.log.failed) code mark who at)
 
     pub mark_fits : (code mark : ℕ)
-        → MarkFits who (answer_of ls (is_some parts.log.failed) code mark parts.words.words (next who))
+        → MarkFits who (answer_of parts.words.layout ls (is_some parts.log.failed) code mark parts.words.words (next who))
     mark_fits code mark = let W = R.running in
         subst (λ (r : Answer). MarkFits who r) (sym (answer_is code mark)) (by who at)
       where
@@ -267,21 +269,21 @@ module _ {L D : Type 0} {archive : Bool} (log_seen : L → Seen) (data_seen : D 
 
     playable : IsNoAppend (next who) → (l : Lent) → Lends l (lent who) → IsPlayable parts (next who) l
     playable none l lends = let W = R.running in record {
-      there = subst (λ (n : ℕ). OpWords n (next who)) (sym R.word_pages) words;
-      sum = holds_sum ls (is_some parts.log.failed) 0 0 parts.words.words who (fits 0 0).log;
+      there = subst (λ (l : Layout). OpWords l (next who)) (sym W.layout_is) words;
+      sum = holds_sum parts.words.layout ls (is_some parts.log.failed) 0 0 parts.words.words who (fits 0 0).log;
       listing = subst (λ (n : ℕ). ListReady n ls (next who)) (sym R.list_pages) (list_ready A B c W.shared W.log_ghost W.page_ghost ls parts.log parts.store actors seat W.both who at);
       real = W.both.paged.paged.lists.real;
       log = log_call log_seen (log_seen run.first_log.dev).faults run.first_log.marks.number (log_part.HasBegun log_seen (lsn c.base) run.first_log) c W.log_ghost parts.log who W.both.logged.global.part.holds low_stable (next who) l lends
           (both_ready.log_ready A log_laws B data_laws c W.shared W.log_ghost W.page_ghost ls parts.log parts.store
           actors seat W.both who at) reads;
       own = none;
-      data_part = data_call data_seen (data_seen run.first_data.dev).faults run.shape (data_part.HasBegun data_seen c.opened run.first_data) c R.its_pages R.its_page_size R.limits W.page_ghost.kept_page parts.store (next who) (lent who) l lends data_can;
+      data_part = data_call data_seen (data_seen run.first_data.dev).faults run.shape (data_part.HasBegun data_seen c.opened run.first_data) c R.its_pages R.its_page_size R.its_slots R.limits W.page_ghost.kept_page parts.store (next who) (lent who) l lends data_can;
     }
 
     pub serves_other : IsNoAppend (next who) → MayServe parts who
     serves_other none = record {
       playable = playable none;
-      whole = whole_pages data_seen (data_seen run.first_data.dev).faults run.shape (data_part.HasBegun data_seen c.opened run.first_data) c R.its_pages R.its_page_size R.limits R.running.page_ghost.kept_page parts.store (next who) (lent who) data_can;
+      whole = whole_pages data_seen (data_seen run.first_data.dev).faults run.shape (data_part.HasBegun data_seen c.opened run.first_data) c R.its_pages R.its_page_size R.its_slots R.limits R.running.page_ghost.kept_page parts.store (next who) (lent who) data_can;
       fits = fits;
       mark = mark_fits;
     }

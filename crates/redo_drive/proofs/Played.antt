@@ -49,51 +49,54 @@ module _ {L D : Type 0} (log_seen : L → Seen) (data_seen : D → Seen) (run : 
   none : (o : Op) → IsNoBatch o → (code : ℕ) → DataServed (run_data_side log_seen data_seen run) old.store l o code old.store
   none o other code = untouched (run_data_side log_seen data_seen run) old.store old.store l o code other refl
 
-  pub word_played : (o : Op) (w : Plain) (r : Answer) → OnWord o → w.words ≡ words_after o old.words.words → r ≡ answer.Old (word_found o old.words.words) → Played o r (with_words w)
-  word_played (op.Load v) w r on words is = record { code = 0; log_served = refl; data_served = none (op.Load v) tt 0; own_served = tt; words = words; lists = refl; answered = is }
-  word_played (op.Store v x) w r on words is = record { code = 0; log_served = refl; data_served = none (op.Store v x) tt 0; own_served = tt; words = words; lists = refl; answered = is }
-  word_played (op.Add v x) w r on words is = record { code = 0; log_served = refl; data_served = none (op.Add v x) tt 0; own_served = tt; words = words; lists = refl; answered = is }
-  word_played (op.Swap v x y) w r on words is = record { code = 0; log_served = refl; data_served = none (op.Swap v x y) tt 0; own_served = tt; words = words; lists = refl; answered = is }
-  word_played _ w r on words is = absurd on
+  pub word_played : (o : Op) (w : Plain) (r : Answer) → OnWord o → w.layout ≡ old.words.layout
+      → w.words ≡ words_after old.words.layout o old.words.words → r ≡ answer.Old (word_found old.words.layout o old.words.words) → Played o r (with_words w)
+  word_played (op.Load v) w r on layout words is = record { code = 0; log_served = refl; data_served = none (op.Load v) tt 0; own_served = tt; layout = layout; words = words; lists = refl; answered = is }
+  word_played (op.Store v x) w r on layout words is = record { code = 0; log_served = refl; data_served = none (op.Store v x) tt 0; own_served = tt; layout = layout; words = words; lists = refl; answered = is }
+  word_played (op.Add v x) w r on layout words is = record { code = 0; log_served = refl; data_served = none (op.Add v x) tt 0; own_served = tt; layout = layout; words = words; lists = refl; answered = is }
+  word_played (op.Swap v x y) w r on layout words is = record { code = 0; log_served = refl; data_served = none (op.Swap v x y) tt 0; own_served = tt; layout = layout; words = words; lists = refl; answered = is }
+  word_played _ w r on layout words is = absurd on
 
   by_op : (o p : Op) (r : Answer) (new : Parts L D) → o ≡ p → Played p r new → Played o r new
   by_op o p r new is played = subst (λ (z : Op). Played z r new) (sym is) played
 
-  pub gave_device : (o : Op) → o ≡ op.GiveDevice → (w : Plain) (r : Answer) → r ≡ answer.Taken None → w.words ≡ slice_set old.words.words 7 0 → Played o r (with_words w)
-  gave_device o is w r taken words = by_op o op.GiveDevice r (with_words w) is (record { code = 0; log_served = refl; data_served = none op.GiveDevice tt 0; own_served = tt; words = words; lists = refl; answered = taken })
+  pub gave_device : (o : Op) → o ≡ op.GiveDevice → (w : Plain) (r : Answer) → r ≡ answer.Taken None
+      → w.layout ≡ old.words.layout → w.words ≡ slice_set old.words.words 7 0 → Played o r (with_words w)
+  gave_device o is w r taken layout words = by_op o op.GiveDevice r (with_words w) is (record { code = 0; log_served = refl; data_served = none op.GiveDevice tt 0; own_served = tt; layout = layout; words = words; lists = refl; answered = taken })
 
   pub rested : (o : Op) → o ≡ op.Rest → Played o answer.Rested old
-  rested o is = by_op o op.Rest answer.Rested old is (record { code = 0; log_served = refl; data_served = none op.Rest tt 0; own_served = tt; words = refl; lists = refl; answered = refl })
+  rested o is = by_op o op.Rest answer.Rested old is (record { code = 0; log_served = refl; data_served = none op.Rest tt 0; own_served = tt; layout = refl; words = refl; lists = refl; answered = refl })
 
-  module _ (new : Parts L D) (r : Answer) (same : HasSameDevices old new) where
+  module _ (new : Parts L D) (r : Answer) (same : HasSameDevices old new) (layout : new.words.layout ≡ old.words.layout) where
     left : (o : Op) → IsNoBatch o → DataServed (run_data_side log_seen data_seen run) old.store l o 0 new.store
     left o other = untouched (run_data_side log_seen data_seen run) old.store new.store l o 0 other same.data_part
 
-    pub took_device : (o : Op) → o ≡ op.TakeDevice → new.words.words ≡ words_left old.words.words op.TakeDevice → ◌≡◌ {A = Listings} new.lists old.lists
-        → ((code mark : ℕ) → r ≡ answer_of (lists_of old.lists) (is_some old.log.failed) code mark old.words.words op.TakeDevice) → Played o r new
-    took_device o is words lists answers = by_op o op.TakeDevice r new is (record { code = 0; log_served = same.log; data_served = left op.TakeDevice tt; own_served = tt; words = words; lists = ap lists_of lists; answered = answers 0 new.log.marks.stable })
+    pub took_device : (o : Op) → o ≡ op.TakeDevice → new.words.words ≡ words_left old.words.layout old.words.words op.TakeDevice → ◌≡◌ {A = Listings} new.lists old.lists
+        → ((code mark : ℕ) → r ≡ answer_of old.words.layout (lists_of old.lists) (is_some old.log.failed) code mark old.words.words op.TakeDevice) → Played o r new
+    took_device o is words lists answers = by_op o op.TakeDevice r new is (record { code = 0; log_served = same.log; data_served = left op.TakeDevice tt; own_served = tt; layout = layout; words = words; lists = ap lists_of lists; answered = answers 0 new.log.marks.stable })
 
-    pub took_add : (o : Op) (p x : ℕ) → o ≡ op.TakeAdd p x → new.words.words ≡ words_left old.words.words (op.TakeAdd p x)
+    pub took_add : (o : Op) (p x : ℕ) → o ≡ op.TakeAdd p x → new.words.words ≡ words_left old.words.layout old.words.words (op.TakeAdd p x)
         → lists_of new.lists ≡ lists_left (lists_of old.lists) (list_word old.words.words) (op.TakeAdd p x) → r ≡ list_answer (list_word old.words.words (p % 4)) None → Played o r new
-    took_add o p x is words lists answers = by_op o (op.TakeAdd p x) r new is (record { code = 0; log_served = same.log; data_served = left (op.TakeAdd p x) tt; own_served = tt; words = words; lists = lists; answered = answers })
+    took_add o p x is words lists answers = by_op o (op.TakeAdd p x) r new is (record { code = 0; log_served = same.log; data_served = left (op.TakeAdd p x) tt; own_served = tt; layout = layout; words = words; lists = lists; answered = answers })
 
-    pub took_remove : (o : Op) (p : ℕ) → o ≡ op.TakeRemove p → new.words.words ≡ words_left old.words.words (op.TakeRemove p)
+    pub took_remove : (o : Op) (p : ℕ) → o ≡ op.TakeRemove p → new.words.words ≡ words_left old.words.layout old.words.words (op.TakeRemove p)
         → lists_of new.lists ≡ lists_left (lists_of old.lists) (list_word old.words.words) (op.TakeRemove p) → r ≡ list_answer (list_word old.words.words (p % 4)) None → Played o r new
-    took_remove o p is words lists answers = by_op o (op.TakeRemove p) r new is (record { code = 0; log_served = same.log; data_served = left (op.TakeRemove p) tt; own_served = tt; words = words; lists = lists; answered = answers })
+    took_remove o p is words lists answers = by_op o (op.TakeRemove p) r new is (record { code = 0; log_served = same.log; data_served = left (op.TakeRemove p) tt; own_served = tt; layout = layout; words = words; lists = lists; answered = answers })
 
   -- a call of the log part, and one of the data part
-  module _ (o : Op) (new : Parts L D) (r : Answer) (words : new.words.words ≡ old.words.words) (lists : ◌≡◌ {A = Listings} new.lists old.lists) where
+  module _ (o : Op) (new : Parts L D) (r : Answer) (layout : new.words.layout ≡ old.words.layout) (words : new.words.words ≡ old.words.words) (lists : ◌≡◌ {A = Listings} new.lists old.lists) where
     pub log_played : (p : Op) → o ≡ p → CallsLog p → new.store ≡ old.store → LogServed (run_log_side log_seen data_seen run) old.log l p (call_code Log new.log.failed) new.log
         → r ≡ call_answer Log new.log.failed (told_by p new.log.marks.stable) → Played o r new
-    log_played (op.WriteTo t) is calls same served told = by_op o (op.WriteTo t) r new is (record { code = call_code Log new.log.failed; log_served = served; data_served = untouched (run_data_side log_seen data_seen run) old.store new.store l (op.WriteTo t) (call_code Log new.log.failed) tt same; own_served = tt; words = words; lists = ap lists_of lists; answered = told ∙ answer_by_code Log new.log.failed 0 })
-    log_played op.Sync is calls same served told = by_op o op.Sync r new is (record { code = call_code Log new.log.failed; log_served = served; data_served = untouched (run_data_side log_seen data_seen run) old.store new.store l op.Sync (call_code Log new.log.failed) tt same; own_served = tt; words = words; lists = ap lists_of lists; answered = told ∙ answer_by_code Log new.log.failed new.log.marks.stable })
-    log_played (op.Checkpoint y) is calls same served told = by_op o (op.Checkpoint y) r new is (record { code = call_code Log new.log.failed; log_served = served; data_served = untouched (run_data_side log_seen data_seen run) old.store new.store l (op.Checkpoint y) (call_code Log new.log.failed) tt same; own_served = tt; words = words; lists = ap lists_of lists; answered = told ∙ answer_by_code Log new.log.failed 0 })
+    log_played (op.WriteTo t) is calls same served told = by_op o (op.WriteTo t) r new is (record { code = call_code Log new.log.failed; log_served = served; data_served = untouched (run_data_side log_seen data_seen run) old.store new.store l (op.WriteTo t) (call_code Log new.log.failed) tt same; own_served = tt; layout = layout; words = words; lists = ap lists_of lists; answered = told ∙ answer_by_code Log new.log.failed 0 })
+    log_played op.Sync is calls same served told = by_op o op.Sync r new is (record { code = call_code Log new.log.failed; log_served = served; data_served = untouched (run_data_side log_seen data_seen run) old.store new.store l op.Sync (call_code Log new.log.failed) tt same; own_served = tt; layout = layout; words = words; lists = ap lists_of lists; answered = told ∙ answer_by_code Log new.log.failed new.log.marks.stable })
+    log_played (op.Checkpoint y) is calls same served told = by_op o (op.Checkpoint y) r new is (record { code = call_code Log new.log.failed; log_served = served; data_served = untouched (run_data_side log_seen data_seen run) old.store new.store l (op.Checkpoint y) (call_code Log new.log.failed) tt same; own_served = tt; layout = layout; words = words; lists = ap lists_of lists; answered = told ∙ answer_by_code Log new.log.failed 0 })
     log_played (op.ReadBlock y) is calls same served told = by_op o (op.ReadBlock y) r new is (record {
       code = call_code Log new.log.failed;
       log_served = served;
       data_served = untouched (run_data_side log_seen data_seen run) old.store new.store l (op.ReadBlock y)
           (call_code Log new.log.failed) tt same;
       own_served = tt;
+      layout = layout;
       words = words;
       lists = ap lists_of lists;
       answered = told ∙ answer_by_code Log new.log.failed 0;
@@ -102,4 +105,4 @@ module _ {L D : Type 0} (log_seen : L → Seen) (data_seen : D → Seen) (run : 
 
     pub batch_played : o ≡ op.WriteBatch → new.log ≡ old.log → DataServed (run_data_side log_seen data_seen run) old.store l op.WriteBatch (call_code Data new.store.failed) new.store
         → r ≡ call_answer Data new.store.failed 0 → Played o r new
-    batch_played is same served told = by_op o op.WriteBatch r new is (record { code = call_code Data new.store.failed; log_served = same; data_served = served; own_served = tt; words = words; lists = ap lists_of lists; answered = told ∙ answer_by_code Data new.store.failed 0 })
+    batch_played is same served told = by_op o op.WriteBatch r new is (record { code = call_code Data new.store.failed; log_served = same; data_served = served; own_served = tt; layout = layout; words = words; lists = ap lists_of lists; answered = told ∙ answer_by_code Data new.store.failed 0 })

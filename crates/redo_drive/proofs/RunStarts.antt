@@ -12,12 +12,13 @@ use native.Mathlib.Decide.{dec_le}
 use Rattle.model_base.specs.declared.limits.TheConstants.{LSN_LIMIT}
 use Rattle.model_base.specs.declared.shape.Shape.{Shape}
 use Rattle.model_core.proofs.Groups.{tiles_le}
-use Rattle.model_core.specs.{Actor, archives, change_at, changes_of, Entry, flat, Given, Line, line_at, Listed, lsn}
+use Rattle.model_core.specs.{Actor, archives, change_at, changes_of, Entry, flat, Given, layout_of, Line, line_at, Listed, lsn}
 use Rattle.model_core.specs.{Tiles}
 use Rattle.model_core.specs.DataSide.{DataSide}
 use Rattle.model_core.specs.LogSide.{LogSide}
 use Rattle.model_core.specs.Setup.{Setup}
 use Rattle.model_core.specs.Actors as actor
+use Rattle.model_core.specs.declared.words.Layout.{Layout}
 use Rattle.model_device.specs.Disk.{Disk}
 use Rattle.model_running.proofs.Groups.{line_below}
 use Rattle.model_running.proofs.Scripted.{scripted}
@@ -209,7 +210,7 @@ module _ {L D R : Type 0} (log_seen : L → Seen) (data_seen : D → Seen) (stan
   -- what stands at its start
   store_start : StartStore log_part data_part setup words.by_name opened.log opened.store seat_of writer (views_of own.actors.items)
   store_start = record {
-    script = scripted setup script opened.shape may.runnable.limits refl refl (of_script opened.shape opened.pages opened.start script log_only archive (length followers) new.few) fit;
+    script = scripted setup script opened.shape may.runnable.limits refl refl refl (of_script opened.shape opened.pages opened.start script log_only archive (length followers) new.few) fit;
     some_page = may.runnable.limits.some_pages;
     words = words.of_log;
     page_words = words.of_pages;
@@ -230,8 +231,11 @@ module _ {L D R : Type 0} (log_seen : L → Seen) (data_seen : D → Seen) (stan
       subst (λ (actors : List Actor). lsn (setup.base + sum_over_actors left_to_reserve actors) < LSN_LIMIT) (sym owns.actors)
       (room_for_all opened.shape script opened.start log_only archive (length followers) may.fits.lines may.fits.end) in
       let none : ◌≡◌ {A = ℕ → List Listed} (lists_of own.lists) (λ _. []) = λ k i. none_at i k in
-      subst (λ (lists : ℕ → List Listed). RunningStore log_part data_part setup own.words.words lists opened.log opened.store (views_of own.actors.items)) (sym none)
-      (store_starts log_part data_part setup words.by_name opened.log opened.store seat_of writer (views_of own.actors.items) store_start own.words.words words.in_order room)
+      subst (λ (layout : Layout). RunningStore log_part data_part setup layout own.words.words (lists_of own.lists) opened.log
+      opened.store (views_of own.actors.items)) (sym owns.layout)
+      (subst (λ (lists : ℕ → List Listed). RunningStore log_part data_part setup (layout_of setup) own.words.words lists opened.log
+      opened.store (views_of own.actors.items)) (sym none)
+      (store_starts log_part data_part setup words.by_name opened.log opened.store seat_of writer (views_of own.actors.items) store_start own.words.words words.in_order room))
 
   runs : RunsWith log_seen data_seen run archive start.parts (views_of own.actors.items)
   runs = record {
@@ -241,7 +245,7 @@ module _ {L D R : Type 0} (log_seen : L → Seen) (data_seen : D → Seen) (stan
     its_page_size = refl;
     followers = none_archives archive;
     bytes = record { opened = owns.bytes; cells = λ user j k i. lines_get_bytes opened.shape opened.pages opened.start script log_only may.fits.lines user j k i };
-    word_pages = owns.word_pages ∙ may.runnable.its_pages.count;
+    its_slots = refl;
     list_pages = ap (λ (lists : Listings). lists.pages) owns.lists;
     running = is_running;
     seated = subst (AreSeated setup) (sym owns.actors) (are_seated opened.shape opened.pages opened.start script log_only archive (length followers)

@@ -139,7 +139,7 @@ module _ (shape : Shape) (pages : List Content) (start : ℕ) (script : List Scr
     pages_start true is i a at = absurd (some-ne-none a (sym at))
     pages_start false is zero a at = subst (IsHere (length users + 2)) (some-injective (actor.Closer new_closer) a at)
         (record { start = (refl, refl); with_pages = tt })
-    pages_start false is (suc zero) a at = subst (IsHere (length users + 3)) (some-injective (actor.Cleaner (new_cleaner shape.pages shape.page_size)) a at)
+    pages_start false is (suc zero) a at = subst (IsHere (length users + 3)) (some-injective (actor.Cleaner (new_cleaner shape.pages shape.page_size shape.slots)) a at)
         (record { start = (refl, refl); with_pages = tt })
     pages_start false is (suc (suc zero)) a at =
         subst (IsHere (length users + 4)) (some-injective (actor.Checkpointer new_last) a at) (record {
@@ -227,9 +227,9 @@ module _ (shape : Shape) (pages : List Content) (start : ℕ) (script : List Scr
       → ArePageActors b (page_actors shape start b archive followers ++ readers_of start archive followers)
   are_page_actors true = let all = all_readers archive in (all.states, all.are)
   are_page_actors false = let all = all_readers archive in (
-    record { closer = new_closer; cleaner = new_cleaner shape.pages shape.page_size; checkpointer = new_last },
+    record { closer = new_closer; cleaner = new_cleaner shape.pages shape.page_size shape.slots; checkpointer = new_last },
     all.states,
-    ap (λ (l : List Actor). actor.Closer new_closer ∷ actor.Cleaner (new_cleaner shape.pages shape.page_size)
+    ap (λ (l : List Actor). actor.Closer new_closer ∷ actor.Cleaner (new_cleaner shape.pages shape.page_size shape.slots)
         ∷ actor.Checkpointer new_last ∷ l) all.are,
   )
 

@@ -2,11 +2,10 @@
 use Rattle.std.proofs.Common.{List, [], ap, arith, length, refl, set, subst, suc, sym, zero, ℕ, ◌<◌, ◌∙◌, ◌∷◌, ◌≡◌}
 use Rattle.std.specs.Prelude.{slice_index, slice_set}
 use Rattle.std.proofs.lemmas.List.{ext_get_or, get_or-set_same, set-get_or, set-set}
-use Rattle.model_core.specs.{blank_words, page_words_at, PageWords, SharedWords, with_page_words, wrote}
+use Rattle.model_core.specs.{blank_words, frame_words, page_words_at, PageWords, SharedWords, with_page_words, wrote}
 use Rattle.model_core.specs.declared.words.Word.TheVariants as word
-use Rattle.model_core.specs.declared.limits.TheConstants.{FRAME_WORDS}
-use Rattle.redo_drive.proofs.StartWordsPacked.{page_frame-length}
-use Rattle.redo_drive.specs.FirstWords.{page_frame}
+use Rattle.redo_drive.proofs.StartWordsPacked.{page_frame-at, page_frame-length}
+use Rattle.redo_drive.specs.FirstWords.{cells_word, page_frame}
 use Rattle.redo_drive.specs.StartWords.{AreNamed, IsBlankFrame, with_frame}
 use Rattle.redo_words.specs.Plain.{Plain}
 
@@ -50,32 +49,47 @@ frame_wrote page i x cells m there =
     ∙ ap (λ (ws : List PageWords). let named : SharedWords = record m { page_words = ws } in named) (set-set m.page_words page w (record w { frame = slice_set cells i x }))
 
 -- the frame has so many of its words, and the other words are as they were
-pub record IsFramedUpTo (old new : Plain) (page : ℕ) (user : List ℕ) (i : ℕ) : Type 0 where
-  pub pages : new.pages ≡ old.pages
-  pub named : (m : SharedWords) → AreNamed old m → IsBlankFrame page m → AreNamed new (with_frame page (bytes_up_to (page_frame user) i) m)
+pub record IsFramedUpTo (old new : Plain) (page page_size : ℕ) (user : List ℕ) (i : ℕ) : Type 0 where
+  pub layout : new.layout ≡ old.layout
+  pub named : (m : SharedWords) → AreNamed old m → IsBlankFrame page m
+      → AreNamed new (with_frame page (bytes_up_to (page_frame page_size user) i) m)
 
-module _ (old : Plain) (page : ℕ) (user : List ℕ) (there : page < old.pages) where
-  pub framed_none : IsFramedUpTo old old page user 0
+module _ (old : Plain) (page page_size : ℕ) (user : List ℕ) (there : page < old.layout.pages)
+    (its_size : old.layout.page_size ≡ page_size) where
+  abbrev its : List ℕ
+  its = page_frame page_size user
+
+  pub framed_none : IsFramedUpTo old old page page_size user 0
   framed_none = record {
-    pages = refl;
+    layout = refl;
     named = λ m named blank.
-        let words : List ℕ = bytes_up_to (page_frame user) 0 in let frame : List ℕ = (page_words_at m.page_words page).frame in
-        let long : length words ≡ length frame = up_to-length (page_frame user) 0 ∙ page_frame-length user ∙ sym (named.sized.frames page there) in
-        let same : words ≡ frame = ext_get_or 0 words frame long (λ i _. up_to_none (page_frame user) i ∙ sym (blank i)) in
+        let words : List ℕ = bytes_up_to its 0 in
+        let frame : List ℕ = (page_words_at m.page_words page).frame in
+        let long : length words ≡ length frame = up_to-length its 0 ∙ page_frame-length page_size user
+        ∙ ap frame_words (sym its_size) ∙ sym (named.sized.frames page there) in
+        let same : words ≡ frame = ext_get_or 0 words frame long (λ i _. up_to_none its i ∙ sym (blank i)) in
         subst (AreNamed old) (sym (frame_same page words m same)) named;
   }
 
-  pub framed_more : (mid new : Plain) (i x : ℕ) → IsFramedUpTo old mid page user i → x ≡ slice_index (page_frame user) i → new.pages ≡ mid.pages → ((m : SharedWords) → AreNamed mid m → AreNamed new (wrote m (word.Frame page i) x)) → IsFramedUpTo old new page user (suc i)
-  framed_more mid new i x before is pages step = record {
-    pages = pages ∙ before.pages;
+  pub framed_more : (mid new : Plain) (i x : ℕ) → IsFramedUpTo old mid page page_size user i → i < frame_words page_size
+      → x ≡ cells_word user i → new.layout ≡ mid.layout
+      → ((m : SharedWords) → AreNamed mid m → AreNamed new (wrote m (word.Frame page i) x))
+      → IsFramedUpTo old new page page_size user (suc i)
+  framed_more mid new i x before few is layout step = record {
+    layout = layout ∙ before.layout;
     named = λ m named blank.
-        let words : List ℕ = bytes_up_to (page_frame user) i in
-        let more : slice_set words i x ≡ bytes_up_to (page_frame user) (suc i) = ap (set words i) is ∙ up_to_more (page_frame user) i in
+        let words : List ℕ = bytes_up_to its i in
+        let more : slice_set words i x ≡ bytes_up_to its (suc i) =
+        ap (set words i) (is ∙ sym (page_frame-at page_size user i few)) ∙ up_to_more its i in
         subst (AreNamed new)
-        (frame_wrote page i x words m (omega (arith, named.sized.page_words)) ∙ ap (λ (frame : List ℕ). with_frame page frame m) more)
+        (frame_wrote page i x words m (omega (arith, named.sized.page_words))
+        ∙ ap (λ (frame : List ℕ). with_frame page frame m) more)
         (step (with_frame page words m) (before.named m named blank));
   }
 
   -- all of them are the page's
-  pub framed_all : (new : Plain) (i : ℕ) → IsFramedUpTo old new page user i → i ≡ FRAME_WORDS → (m : SharedWords) → AreNamed old m → IsBlankFrame page m → AreNamed new (with_frame page (page_frame user) m)
-  framed_all new i framed all m named blank = subst (λ (frame : List ℕ). AreNamed new (with_frame page frame m)) (ap (bytes_up_to (page_frame user)) (all ∙ sym (page_frame-length user)) ∙ up_to_all (page_frame user)) (framed.named m named blank)
+  pub framed_all : (new : Plain) (i : ℕ) → IsFramedUpTo old new page page_size user i → i ≡ frame_words page_size
+      → (m : SharedWords) → AreNamed old m → IsBlankFrame page m → AreNamed new (with_frame page its m)
+  framed_all new i framed all m named blank =
+      subst (λ (frame : List ℕ). AreNamed new (with_frame page frame m))
+      (ap (bytes_up_to its) (all ∙ sym (page_frame-length page_size user)) ∙ up_to_all its) (framed.named m named blank)

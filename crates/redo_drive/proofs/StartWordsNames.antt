@@ -3,17 +3,17 @@ use Rattle.std.proofs.Common.{List, ap, arith, length, refl, subst, sym, ℕ, �
 use Rattle.std.specs.Prelude.{slice_set}
 use Rattle.std.proofs.lemmas.Bool.{cases_eq}
 use Rattle.std.proofs.lemmas.List.{get_or-set_other, get_or-set_same, length-set}
-use Rattle.model_core.specs.{blank_words, index, IsSized, IsWord, page_words_at, PageWords, SharedWords, with_page_words, wrote}
-use Rattle.model_core.specs.declared.limits.TheConstants.{FRAME_WORDS}
+use Rattle.model_core.specs.{blank_words, frame_words, index, IsSized, IsWord, page_words_at, PageWords, SharedWords, with_page_words, wrote}
+use Rattle.model_core.specs.declared.words.Layout.{Layout}
 use Rattle.model_core.specs.declared.words.Word.{Word}
 use Rattle.model_core.specs.declared.words.Word.TheVariants as word
 use Rattle.model_running.proofs.FlatWords.{flat_wrote}
 use Rattle.redo_drive.specs.StartWords.{AreNamed}
 use Rattle.redo_words.specs.Plain.{Plain}
 
-module _ (pages : ℕ) (m : SharedWords) (s : IsSized pages m) where
+module _ (layout : Layout) (m : SharedWords) (s : IsSized layout m) where
   -- other words of a page, whose frame is as long
-  pub page_sized : (p : ℕ) (w : PageWords) → p < pages → length w.frame ≡ FRAME_WORDS → IsSized pages (with_page_words m p w)
+  pub page_sized : (p : ℕ) (w : PageWords) → p < layout.pages → length w.frame ≡ frame_words layout.page_size → IsSized layout (with_page_words m p w)
   page_sized p w there long = record {
     lists = s.lists;
     wlinks = s.wlinks;
@@ -31,7 +31,7 @@ module _ (pages : ℕ) (m : SharedWords) (s : IsSized pages m) where
   -- words of which each row is as long, and whose pages are the same
   rows_sized : (n : SharedWords) → length n.lists ≡ length m.lists → length n.wlinks ≡ length m.wlinks
       → length n.clinks ≡ length m.clinks → length n.cells ≡ length m.cells → length n.firsts ≡ length m.firsts
-      → length n.places ≡ length m.places → n.page_words ≡ m.page_words → IsSized pages n
+      → length n.places ≡ length m.places → n.page_words ≡ m.page_words → IsSized layout n
   rows_sized n lists wlinks clinks cells firsts places page_words = record {
     lists = lists ∙ s.lists;
     wlinks = wlinks ∙ s.wlinks;
@@ -44,7 +44,7 @@ module _ (pages : ℕ) (m : SharedWords) (s : IsSized pages m) where
   }
 
   -- a word that is written leaves how many there are of each kind
-  pub wrote_sized : (w : Word) → IsWord pages w → (x : ℕ) → IsSized pages (wrote m w x)
+  pub wrote_sized : (w : Word) → IsWord layout w → (x : ℕ) → IsSized layout (wrote m w x)
   wrote_sized word.Sn h x = rows_sized (wrote m word.Sn x) refl refl refl refl refl refl refl
   wrote_sized word.Write h x = rows_sized (wrote m word.Write x) refl refl refl refl refl refl refl
   wrote_sized word.Wtail h x = rows_sized (wrote m word.Wtail x) refl refl refl refl refl refl refl
@@ -71,8 +71,10 @@ module _ (pages : ℕ) (m : SharedWords) (s : IsSized pages m) where
   wrote_sized (word.Frame p i) h x = page_sized p (record (page_words_at m.page_words p) { frame = slice_set (page_words_at m.page_words p).frame i x }) h.0 (length-set (page_words_at m.page_words p).frame i x ∙ s.frames p h.0)
 
 -- the words stay named where one is written
-pub named_wrote : (old new : Plain) (m : SharedWords) (w : Word) (x : ℕ) → AreNamed old m → IsWord old.pages w → new.pages ≡ old.pages → new.words ≡ slice_set old.words (index w) x → AreNamed new (wrote m w x)
-named_wrote old new m w x named there pages words = record {
-  sized = subst (λ (n : ℕ). IsSized n (wrote m w x)) (sym pages) (wrote_sized old.pages m named.sized w there x);
-  in_order = words ∙ ap (λ (ws : List ℕ). slice_set ws (index w) x) named.in_order ∙ flat_wrote old.pages m named.sized w there x;
+pub named_wrote : (old new : Plain) (m : SharedWords) (w : Word) (x : ℕ) → AreNamed old m → IsWord old.layout w
+    → new.layout ≡ old.layout → new.words ≡ slice_set old.words (index old.layout w) x → AreNamed new (wrote m w x)
+named_wrote old new m w x named there layout words = record {
+  sized = subst (λ (l : Layout). IsSized l (wrote m w x)) (sym layout) (wrote_sized old.layout m named.sized w there x);
+  in_order = words ∙ ap (λ (ws : List ℕ). slice_set ws (index old.layout w) x) named.in_order
+      ∙ flat_wrote old.layout m named.sized w there x;
 }

@@ -1,22 +1,20 @@
 -- A page's frame, packed eight bytes a word.
-use Rattle.std.proofs.Common.{List, [], ap, arith, drop, get_or, length, length-append, refl, replicate, subst, suc, sym, take, zero, ℕ, ◌*◌, ◌++◌, ◌+◌, ◌-◌, ◌/◌, ◌<◌, ◌∙◌, ◌∷◌, ◌≡◌, ◌≤◌}
+use Rattle.std.proofs.Common.{List, [], ap, arith, drop, get_or, length, length-append, refl, replicate, subst, suc, sym, take, zero, ℕ, ◌*◌, ◌++◌, ◌+◌, ◌-◌, ◌<◌, ◌∙◌, ◌∷◌, ◌≡◌, ◌≤◌}
 use Rattle.std.proofs.Common.{length-drop, length-take-le}
 use Rattle.std.proofs.Math.Seq.{take-append-add}
 use Rattle.std.proofs.lemmas.List.{ext_get_or, get_or-drop, get_or-replicate, get_or-take, get_or_past, length-replicate, length-take, take-append-drop}
 use Rattle.std.specs.Prelude.{max, min, slice_index}
 use native.Mathlib.Decide.{dec_le}
-use Rattle.model_base.proofs.ShapeLimits.{page_size_facts}
 use Rattle.model_base.specs.{frame_length, IsPageSize}
 use Rattle.model_base.specs.declared.limits.TheConstants.{PAGE_TRAILER, USER_START}
 use Rattle.model_core.proofs.FrameWords.{packed_lane}
 use Rattle.model_core.proofs.Groups.{back, front}
 use Rattle.model_core.proofs.Lanes.{lanes_are, lanes_decide, lanes_long}
-use Rattle.model_core.proofs.PageSizes.{has_room}
-use Rattle.model_core.specs.{frame_bytes, framed_page}
+use Rattle.model_core.proofs.PageSizes.{frame_fills}
+use Rattle.model_core.specs.{frame_bytes, frame_words, framed_page}
 unfoldable use Rattle.model_core.specs.{lane, lanes, packed}
-use Rattle.model_core.specs.declared.limits.TheConstants.{FRAME_WORDS}
 use Rattle.redo_drive.proofs.StartWordsPages.{page_cells-length, page_cells-small}
-unfoldable use Rattle.redo_drive.specs.FirstWords.{page_cells, page_frame}
+unfoldable use Rattle.redo_drive.specs.FirstWords.{cells_word, page_cells, page_frame}
 use Rattle.redo_drive.specs.FirstWords.{packed_words}
 
 words_of-length : (n : ℕ) (bytes : List ℕ) → length (packed_words n bytes) ≡ n
@@ -64,20 +62,25 @@ words_of-bytes (suc n) (suc m) bytes le long small =
       | no there ↦ (let z = get_or-take 8 bytes i 0 (omega arith) in let s = small i in omega arith)
     ]
 
-pub page_frame-length : (user : List ℕ) → length (page_frame user) ≡ FRAME_WORDS
+pub page_frame-length : (n : ℕ) (user : List ℕ) → length (page_frame n user) ≡ frame_words n
 unfolding page_frame
-page_frame-length user = words_of-length FRAME_WORDS (page_cells user)
+page_frame-length n user = words_of-length (frame_words n) (page_cells user)
+
+pub page_frame-at : (n : ℕ) (user : List ℕ) (q : ℕ) → q < frame_words n
+    → slice_index (page_frame n user) q ≡ cells_word user q
+unfolding page_frame cells_word
+page_frame-at n user q there = words_of-at (frame_words n) (page_cells user) q there
 
 -- a page of full size stands in its frame
-pub page_frame-bytes : (n : ℕ) (user : List ℕ) → IsPageSize n → length user + frame_length ≡ n → ((i : ℕ) → slice_index user i < 256) → framed_page n (page_frame user) ≡ page_cells user
+pub page_frame-bytes : (n : ℕ) (user : List ℕ) → IsPageSize n → length user + frame_length ≡ n
+    → ((i : ℕ) → slice_index user i < 256) → framed_page n (page_frame n user) ≡ page_cells user
 unfolding page_frame
 page_frame-bytes n user size full small =
-    let whole = page_size_facts n size in
-    let room = has_room n size in
-    let m : ℕ = n / 8 in
-    let e : n ≡ 8 * m = omega (arith, whole.sectors) in
-    ap (λ (k : ℕ). take k (frame_bytes (packed_words FRAME_WORDS (page_cells user)))) e
-    ∙ words_of-bytes FRAME_WORDS m (page_cells user) (omega arith) (omega (arith, page_cells-length user)) (page_cells-small 256 user (omega arith) small)
+    let m : ℕ = frame_words n in
+    let e : n ≡ 8 * m = sym (frame_fills n size) in
+    ap (λ (k : ℕ). take k (frame_bytes (packed_words m (page_cells user)))) e
+    ∙ words_of-bytes m m (page_cells user) (omega arith) (omega (arith, page_cells-length user, frame_fills n size))
+    (page_cells-small 256 user (omega arith) small)
 
 -- WHAT STANDS IN A PAGE'S CELLS
 module _ (user : List ℕ) where
@@ -106,7 +109,7 @@ module _ (user : List ℕ) where
     | no there ↦ get_or-replicate 8 i 0 0 (omega arith)
   ]
 
-  module _ (q : ℕ) (there : q < FRAME_WORDS) where
+  module _ (q : ℕ) where
     abbrev eight : List ℕ
     eight = take 8 (drop (8 * q) (page_cells user))
 
@@ -116,13 +119,13 @@ module _ (user : List ℕ) where
     eight_at : (i : ℕ) → i < 8 → slice_index eight i ≡ slice_index (page_cells user) (8 * q + i)
     eight_at i l = get_or-take 8 (drop (8 * q) (page_cells user)) i 0 l ∙ get_or-drop (8 * q) (page_cells user) i 0
 
-    frame_at : slice_index (page_frame user) q ≡ packed 0 eight
-    unfolding page_frame
-    frame_at = words_of-at FRAME_WORDS (page_cells user) q there
+    frame_at : cells_word user q ≡ packed 0 eight
+    unfolding cells_word
+    frame_at = refl
 
     -- a word that holds user bytes: some lanes before them are 0, and those after
     pub some_there : (from to : ℕ) (ys : List ℕ) → 8 * q ≤ from → 38 ≤ from → (8 * q < from → from ≡ 38) → from < to → to ≤ 8 * q + 8 → to ≤ end → (to < 8 * q + 8 → to ≡ end)
-        → length ys ≡ to - from → ((i : ℕ) → i < to - from → slice_index ys i ≡ slice_index user (from - 38 + i)) → packed (from - 8 * q) ys ≡ slice_index (page_frame user) q
+        → length ys ≡ to - from → ((i : ℕ) → i < to - from → slice_index ys i ≡ slice_index user (from - 38 + i)) → packed (from - 8 * q) ys ≡ cells_word user q
     unfolding packed
     some_there from to ys a b c d e f g long are = lanes_decide (replicate (from - 8 * q) 0 ++ ys) eight each ∙ sym frame_at
       where
@@ -147,7 +150,7 @@ module _ (user : List ℕ) where
         ]
 
     -- and one that holds none
-    pub none_there : min (8 * q + 8) end ≤ max (8 * q) 38 → 0 ≡ slice_index (page_frame user) q
+    pub none_there : min (8 * q + 8) end ≤ max (8 * q) 38 → 0 ≡ cells_word user q
     unfolding packed
     none_there out = zero_word ∙ sym frame_at
       where
@@ -166,7 +169,7 @@ module _ (user : List ℕ) where
         zero_word : 0 ≡ packed 0 eight
         zero_word = lanes_decide [] eight (λ i. each i)
 
-    pub some_in : (f from to w : ℕ) (ys : List ℕ) → f ≡ q * 8 → from ≡ max f 38 → to ≡ min (f + 8) end → from < to → ys ≡ take (to - 38 - (from - 38)) (drop (from - 38) user) → w ≡ packed (from - f) ys → w ≡ slice_index (page_frame user) q
+    pub some_in : (f from to w : ℕ) (ys : List ℕ) → f ≡ q * 8 → from ≡ max f 38 → to ≡ min (f + 8) end → from < to → ys ≡ take (to - 38 - (from - 38)) (drop (from - 38) user) → w ≡ packed (from - f) ys → w ≡ cells_word user q
     some_in f from to w ys fe a b lt is we = we ∙ ap (λ (k : ℕ). packed k ys) (let e : from - f ≡ from - 8 * q = omega arith in e)
         ∙ some_there from to ys (omega arith) (omega arith) (λ h. omega arith) lt (omega arith) (omega arith) (λ h. omega arith)
         (ap length is ∙ length-take-le (to - 38 - (from - 38)) (drop (from - 38) user) (omega (arith, length-drop (from - 38) user)) ∙ (let e : to - 38 - (from - 38) ≡ to - from = omega arith in e))

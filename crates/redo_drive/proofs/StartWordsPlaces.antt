@@ -40,20 +40,20 @@ first_place start (suc i) few =
 
 -- so many of them have their places, and the other words are as they were
 pub record HavePlacesUpTo (old new : Plain) (start n : ℕ) : Type 0 where
-  pub pages : new.pages ≡ old.pages
+  pub layout : new.layout ≡ old.layout
   pub named : (m : SharedWords) → AreNamed old m
       → AreNamed new (record m { places = begun_with (first_places start) n m.places })
 
 module _ (old : Plain) (start : ℕ) where
   pub places_none : HavePlacesUpTo old old start 0
-  places_none = record { pages = refl; named = λ m named. named }
+  places_none = record { layout = refl; named = λ m named. named }
 
   pub places_more : (mid new : Plain) (n x : ℕ) → HavePlacesUpTo old mid start n → n < READERS
-      → x ≡ slice_index (first_places start) n → new.pages ≡ mid.pages
+      → x ≡ slice_index (first_places start) n → new.layout ≡ mid.layout
       → ((m : SharedWords) → AreNamed mid m → AreNamed new (wrote m (word.Place n) x))
       → HavePlacesUpTo old new start (suc n)
-  places_more mid new n x before few is pages step = record {
-    pages = pages ∙ before.pages;
+  places_more mid new n x before few is layout step = record {
+    layout = layout ∙ before.layout;
     named = λ m named.
         let mixed : List ℕ = begun_with (first_places start) n m.places in
         let more : slice_set mixed n x ≡ begun_with (first_places start) (suc n) m.places =

@@ -10,10 +10,11 @@ use Rattle.model_base.specs.declared.limits.TheConstants.{BLOCK_SIZE}
 use Rattle.model_base.specs.declared.shape.Shape.{Shape}
 use Rattle.model_core.proofs.Lists.{one_turn}
 use Rattle.model_core.proofs.Lsns.{lsn_block, lsn_offset}
-use Rattle.model_core.specs.{blank_words, flat, framed_page, IsSized, KeptPage, lsn, page_words_at, PageWords, SharedWords}
+use Rattle.model_core.specs.{blank_words, flat, framed_page, frame_words, IsSized, KeptPage, layout_of, lsn, page_words_at, PageWords, SharedWords}
 use Rattle.model_core.specs.Setup.{Setup}
 use Rattle.model_core.specs.StartWords.{start_checkpoint}
 use Rattle.model_core.specs.declared.limits.TheConstants.{BUFFER_BLOCKS, READERS}
+use Rattle.model_core.specs.declared.words.Layout.{Layout}
 use Rattle.model_log.specs.{data_before, IsAtDataStart, sn_of}
 use Rattle.model_log.specs.declared.layout.TheConstants.{BLOCK_DATA, BLOCK_HEADER}
 use Rattle.model_page.specs.{blank_page}
@@ -25,44 +26,50 @@ use Rattle.redo_drive.proofs.StartWordsPlaces.{first_place}
 use Rattle.redo_drive.proofs.StartWordsZero.{zero_page, zero_page_at, zero_words, zeros-length, zeros-zero}
 use Rattle.redo_drive.specs.FirstWords.{first_places, first_words, free_page, page_frame, zeros}
 use Rattle.redo_drive.specs.StartWords.{AreNamed, AreStartWords, IsBlankFrame, StartsOn, with_frame, with_log}
-use Rattle.redo_words.specs.Plain.{Plain}
+use Rattle.redo_words.specs.Plain.{Plain, shape_layout}
 
 -- the words of a run that starts at this lsn, with these of the pages
-abbrev begun_words : ℕ → ℕ → List PageWords → SharedWords
-begun_words start pages ws = record (with_log start (zero_words pages)) { page_words = ws }
+abbrev begun_words : ℕ → Layout → List PageWords → SharedWords
+begun_words start layout ws = record (with_log start (zero_words layout)) { page_words = ws }
 
 -- so many of the pages have their cells and hold bytes, and the others' cells are 0
 pub record AreSetUpTo (shape : Shape) (start : ℕ) (pages : List Content) (k : ℕ) (words : Plain) : Type 0 where
-  pub count : words.pages ≡ length pages
+  pub layout : words.layout ≡ shape_layout shape
+  pub count : shape.pages ≡ length pages
   pub page_words : List PageWords
-  pub named : AreNamed words (begun_words start (length pages) page_words)
-  pub done : (p : ℕ) → p < k → p < length pages → ◌≡◌ {A = PageWords} (page_words_at page_words p) (free_page (page_frame (get_or pages p (blank_page shape)).user))
-  pub left : (p : ℕ) → k ≤ p → p < length pages → ◌≡◌ {A = PageWords} (page_words_at page_words p) zero_page
+  pub named : AreNamed words (begun_words start (shape_layout shape) page_words)
+  pub done : (p : ℕ) → p < k → p < length pages → ◌≡◌ {A = PageWords} (page_words_at page_words p) (free_page (page_frame shape.page_size (get_or pages p (blank_page shape)).user))
+  pub left : (p : ℕ) → k ≤ p → p < length pages → ◌≡◌ {A = PageWords} (page_words_at page_words p) (zero_page (frame_words shape.page_size))
   pub bytes : (p : ℕ) → p < k → p < length pages → (i : ℕ) → slice_index (get_or pages p (blank_page shape)).user i < 256
 
 module _ (shape : Shape) (start : ℕ) (pages : List Content) where
   -- the words of the log are set, on words that were all 0
-  pub set_none : (words : Plain) (count : ℕ) → count ≡ length pages → words.pages ≡ count → AreNamed words (with_log start (zero_words count)) → AreSetUpTo shape start pages 0 words
-  set_none words count is has named = record {
-    count = has ∙ is;
-    page_words = (zero_words (length pages)).page_words;
-    named = subst (λ (n : ℕ). AreNamed words (with_log start (zero_words n))) is named;
+  pub set_none : (words : Plain) → shape.pages ≡ length pages → words.layout ≡ shape_layout shape
+      → AreNamed words (with_log start (zero_words (shape_layout shape))) → AreSetUpTo shape start pages 0 words
+  set_none words count layout named = record {
+    layout = layout;
+    count = count;
+    page_words = (zero_words (shape_layout shape)).page_words;
+    named = named;
     done = λ p below there. absurd (omega arith);
-    left = λ p from there. zero_page_at (length pages) p there;
+    left = λ p from there. zero_page_at (shape_layout shape) p (omega arith);
     bytes = λ p below there. absurd (omega arith);
   }
 
   -- one more page has its cells
   pub set_more : (mid new : Plain) (k : ℕ) (user : List ℕ) → AreSetUpTo shape start pages k mid → k < length pages → user ≡ (get_or pages k (blank_page shape)).user → ((i : ℕ) → slice_index user i < 256)
-      → new.pages ≡ mid.pages → ((m : SharedWords) → AreNamed mid m → IsBlankFrame k m → AreNamed new (with_frame k (page_frame user) m)) → AreSetUpTo shape start pages (suc k) new
+      → new.layout ≡ mid.layout
+      → ((m : SharedWords) → AreNamed mid m → IsBlankFrame k m
+      → AreNamed new (with_frame k (page_frame shape.page_size user) m)) → AreSetUpTo shape start pages (suc k) new
   set_more mid new k user before there is small same step = record {
-    count = same ∙ before.count;
+    layout = same ∙ before.layout;
+    count = before.count;
     page_words = slice_set before.page_words k framed;
-    named = step (begun_words start (length pages) before.page_words) before.named (λ i. ap (λ (w : PageWords). slice_index w.frame i) blank ∙ zeros-zero _ i);
+    named = step (begun_words start (shape_layout shape) before.page_words) before.named (λ i. ap (λ (w : PageWords). slice_index w.frame i) blank ∙ zeros-zero _ i);
     done = λ p below there'. ⊎_elim
         (λ e. ap (page_words_at (slice_set before.page_words k framed)) e ∙ get_or-set_same before.page_words k framed blank_words long
-        ∙ ap (λ (w : PageWords). let v : PageWords = record w { frame = page_frame user } in v) blank
-        ∙ ap (λ (us : List ℕ). free_page (page_frame us)) is ∙ ap (λ (q : ℕ). free_page (page_frame (get_or pages q (blank_page shape)).user)) (sym e))
+        ∙ ap (λ (w : PageWords). let v : PageWords = record w { frame = page_frame shape.page_size user } in v) blank
+        ∙ ap (λ (us : List ℕ). free_page (page_frame shape.page_size us)) is ∙ ap (λ (q : ℕ). free_page (page_frame shape.page_size (get_or pages q (blank_page shape)).user)) (sym e))
         (λ other. get_or-set_other before.page_words k p framed blank_words other ∙ before.done p (omega arith) there')
         (cases_eq p k);
     left = λ p from there'. get_or-set_other before.page_words k p framed blank_words (λ e. omega arith) ∙ before.left p (omega arith) there';
@@ -73,32 +80,38 @@ module _ (shape : Shape) (start : ℕ) (pages : List Content) where
   }
     where
       framed : PageWords
-      framed = record (page_words_at before.page_words k) { frame = page_frame user }
+      framed = record (page_words_at before.page_words k) { frame = page_frame shape.page_size user }
 
-      blank : ◌≡◌ {A = PageWords} (page_words_at before.page_words k) zero_page
+      blank : ◌≡◌ {A = PageWords} (page_words_at before.page_words k) (zero_page (frame_words shape.page_size))
       blank = before.left k (omega arith) there
 
       long : k < length before.page_words
-      long = omega (arith, before.named.sized.page_words, before.count)
+      long = omega (arith, before.named.sized.page_words, ap (λ (l : Layout). l.pages) before.layout, before.count)
 
   -- so in the end they are the words of a run that begins there
   pub set_first : (words : Plain) (k : ℕ) → AreSetUpTo shape start pages k words → length pages ≤ k
-      → words.words ≡ flat (first_words start pages)
+      → words.words ≡ flat (first_words shape.page_size start pages)
   set_first words k up_to all = up_to.named.in_order
-      ∙ ap (λ (ws : List PageWords). flat (begun_words start (length pages) ws)) same
+      ∙ ap (λ (ws : List PageWords). flat (begun_words start (shape_layout shape) ws)) same
     where
       same : ◌≡◌ {A = List PageWords} up_to.page_words
-          (map (λ (page : Content). free_page (page_frame page.user)) pages)
-      same = ext_get_or blank_words up_to.page_words (map (λ (page : Content). free_page (page_frame page.user)) pages)
+          (map (λ (page : Content). free_page (page_frame shape.page_size page.user)) pages)
+      same = ext_get_or blank_words up_to.page_words (map (λ (page : Content). free_page (page_frame shape.page_size page.user)) pages)
           (omega (
             arith,
             up_to.named.sized.page_words,
+            ap (λ (l : Layout). l.pages) up_to.layout,
             up_to.count,
-            length-map pages (λ (page : Content). free_page (page_frame page.user)),
+            length-map pages (λ (page : Content). free_page (page_frame shape.page_size page.user)),
           ))
-          (λ p below. let there : p < length pages = omega (arith, up_to.named.sized.page_words, up_to.count) in
+          (λ p below. let there : p < length pages = omega (
+            arith,
+            up_to.named.sized.page_words,
+            ap (λ (l : Layout). l.pages) up_to.layout,
+            up_to.count,
+          ) in
           up_to.done p (omega arith) there
-          ∙ sym (get_or-map (λ (page : Content). free_page (page_frame page.user)) pages p (blank_page shape)
+          ∙ sym (get_or-map (λ (page : Content). free_page (page_frame shape.page_size page.user)) pages p (blank_page shape)
           blank_words there))
 
   -- a run that starts there, at the first data byte of a block, has these words
@@ -130,12 +143,18 @@ module _ (shape : Shape) (start : ℕ) (pages : List Content) where
         subst (λ (n : ℕ). slice_index (first_places start) i ≡ cond (i == 0) (n - BLOCK_HEADER) n) (sym on.begins)
         (first_place start i few)
 
+    same_layout : shape.pages ≡ length pages → ◌≡◌ {A = Layout} (shape_layout shape) (layout_of c)
+    same_layout count = ap (λ (n : ℕ). let l : Layout = record { pages = n; page_size = shape.page_size } in l)
+        (count ∙ sym on.count)
+        ∙ ap (λ (n : ℕ). let l : Layout = record { pages = c.pages; page_size = n } in l) (sym on.page_size)
+
     pub set_all : (words : Plain) (k : ℕ) → AreSetUpTo shape start pages k words → length pages ≤ k → AreStartWords words.words c
     set_all words k up_to all = record {
-      by_name = begun_words start (length pages) up_to.page_words;
+      by_name = begun_words start (shape_layout shape) up_to.page_words;
       in_order = up_to.named.in_order;
       of_log = record {
-        sized = subst (λ (n : ℕ). IsSized n (begun_words start (length pages) up_to.page_words)) (up_to.count ∙ sym on.count) up_to.named.sized;
+        sized = subst (λ (l : Layout). IsSized l (begun_words start (shape_layout shape) up_to.page_words))
+            (up_to.layout ∙ same_layout up_to.count) up_to.named.sized;
         even = even;
         sn = sn;
         write = sym on.begins;
@@ -156,7 +175,7 @@ module _ (shape : Shape) (start : ℕ) (pages : List Content) where
             up_to.done p (omega arith) there ∙ ap (λ (w : PageWords). free_page w.frame) (sym (up_to.done p (omega arith) there));
         frames = λ p below. let there : p < length pages = omega (arith, on.count) in
             ap (λ (w : PageWords). framed_page c.page_size w.frame) (up_to.done p (omega arith) there)
-            ∙ ap (λ (n : ℕ). framed_page n (page_frame (get_or pages p (blank_page shape)).user)) on.page_size
+            ∙ ap (λ (n : ℕ). framed_page n (page_frame shape.page_size (get_or pages p (blank_page shape)).user)) on.page_size
             ∙ page_frame-bytes shape.page_size (get_or pages p (blank_page shape)).user limits.page_size
             (omega (arith, user_at shape limits pages its_pages p, (whole_sectors shape limits).least)) (up_to.bytes p (omega arith) there)
             ∙ ap (λ (kept : KeptPage). kept.bytes) (sym (on.opened p there));

@@ -15,7 +15,6 @@ use Rattle.model_core.specs.declared.steps.ReaderStep.{ReaderStep}
 use Rattle.model_core.specs.declared.steps.ReaderStep.TheVariants as reader_step
 use Rattle.model_running.specs.ReadHalf.{handed_at}
 use Rattle.redo_drive.specs.Receiving.{filling_of, handed_by, HasTaken, MarkFits}
-use Rattle.redo_drive.specs.declared.actor.Actor.{Actor}
 use Rattle.redo_drive.specs.declared.actor.Actor.TheVariants as own
 use Rattle.redo_follow.specs.Handing.{Followed, IsToFollow, StandsFor, TookAnswer}
 use Rattle.redo_follow.specs.Following.{Following}

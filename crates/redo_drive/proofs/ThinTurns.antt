@@ -49,6 +49,7 @@ module _ {L D : Type 0} (log_seen : L → Seen) (data_seen : D → Seen) (run : 
   abbrev pub thin : Core (run_log_side log_seen data_seen run) (run_data_side log_seen data_seen run)
       → Core (turn_log_side log_seen) (turn_data_side data_seen)
   thin s = record {
+    layout = s.layout;
     words = s.words;
     log_part = s.log_part;
     data_part = s.data_part;
@@ -70,6 +71,7 @@ module _ {L D : Type 0} (log_seen : L → Seen) (data_seen : D → Seen) (run : 
     data_served = data_thin old.data_part new.data_part t.code (lent (filled t.who t.filling)) (next t.who)
         t.data_served;
     own_served = t.own_served;
+    layout = t.layout;
     words = t.words;
     lists = t.lists;
     answered = t.answered;

@@ -48,6 +48,7 @@ some_run parts = record {
     blocks = 0;
     pages = 0;
     page_size = 0;
+    slots = 0;
     log_only = true;
     script = λ _. [];
     opened = λ _. record { lsn = 0; bytes = [] };
@@ -67,9 +68,9 @@ some_run parts = record {
 module _ {L D : Type 0} (log_seen : L → Seen) (data_seen : D → Seen) (run : RunOf L D) (old new : Parts L D)
     (who : model.Actor) (o : Op) (r : Answer) (is : o ≡ next who) where
   said : (l : model.Lent) (played : IsPlayed log_seen data_seen run o l old r new)
-      → ◌≡◌ {A = Answer} r (answer_of (lists_of old.lists) (is_some old.log.failed) played.code new.log.marks.stable
+      → ◌≡◌ {A = Answer} r (answer_of old.words.layout (lists_of old.lists) (is_some old.log.failed) played.code new.log.marks.stable
       old.words.words (next who))
-  said l played = played.answered ∙ ap {B = Answer} (λ (z : Op). answer_of (lists_of old.lists) (is_some old.log.failed)
+  said l played = played.answered ∙ ap {B = Answer} (λ (z : Op). answer_of old.words.layout (lists_of old.lists) (is_some old.log.failed)
       played.code new.log.marks.stable old.words.words z) is
 
   pub answer_fits : (l : model.Lent) → IsPlayed log_seen data_seen run o l old r new → MayServe old who
@@ -172,9 +173,9 @@ module _ {L D : Type 0} {archive : Bool} (log_seen : L → Seen) (data_seen : D 
           started = R.started;
           its_pages = R.its_pages;
           its_page_size = R.its_page_size;
+          its_slots = R.its_slots;
           followers = R.followers;
           bytes = R.bytes;
-          word_pages = same.words ∙ R.word_pages;
           list_pages = same.lists ∙ R.list_pages;
           running = left.store;
           seated = turn_keeps_seats A B run.setup (core_of log_seen data_seen run old actors)
@@ -324,6 +325,7 @@ module _ {L D R : Type 0} (log_seen : L → Seen) (data_seen : D → Seen) (stan
     log_served = played.log_served;
     data_served = played.data_served;
     own_served = played.own_served;
+    layout = played.layout;
     words = played.words;
     lists = played.lists;
     answered = played.answered;

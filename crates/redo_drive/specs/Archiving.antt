@@ -3,13 +3,12 @@ use Rattle.std.specs.Prelude.{Bool, List, [], None, Option, Some, false, slice_i
 use lib.ListN.{get_elem?}
 use mathlib.Core.Option.{some}
 use Rattle.model_base.specs.{HasRisen}
-use Rattle.model_core.specs.{after_of, archives, index, lsn, next, reader_program, ReaderState}
+use Rattle.model_core.specs.{after_of, archives, flushed_at, lsn, next, reader_program, ReaderState}
 use Rattle.model_core.specs.ReaderProgram.{Filling, reader_filled}
 use Rattle.model_core.specs.declared.ops.Answer.{Answer}
 use Rattle.model_core.specs.declared.ops.Op.TheVariants as op
 use Rattle.model_core.specs.Actors as model
 use Rattle.model_core.specs.Setup.{Setup}
-use Rattle.model_core.specs.declared.words.Word.TheVariants as word
 use Rattle.model_ends.specs.Bound.{last_lsn}
 use Rattle.model_log.specs.{IsRunOf}
 use Rattle.model_log.specs.declared.group.Whole.{Whole}
@@ -47,8 +46,8 @@ pub record StandsBeside {A : Type 0} (seen : A → Seen) (c : Setup) (words : Li
   pub start : part.start ≡ lsn c.base
   pub limit : ℕ
   pub all : last_lsn c actors ≤ limit
-  pub pace : KeepsPace seen limit (slice_index words (index word.Flushed)) archiver part
-  pub asked : AsksUpTo (slice_index words (index word.Flushed)) part
+  pub pace : KeepsPace seen limit (slice_index words flushed_at) archiver part
+  pub asked : AsksUpTo (slice_index words flushed_at) part
 
 -- the same where there is an archive; else no actor archives
 abbrev pub IsBeside : {A : Type 0} → (A → Seen) → Setup → List ℕ → List model.Actor → Option (Part A) → Type 0

@@ -38,7 +38,7 @@ pub record BeginsWith {L D R : Type 0} (log_seen : L → Seen) (data_seen : D �
   pub stands : StandsWith opened script archive (length new_followers) run start.parts (views_of start.actors.items)
   pub from : RunsFromWith log_seen data_seen stands_for run archive start.actors.items start.parts start.actors.items
   pub followers : EndsWithReaders opened.start archive start.actors.items new_followers
-  pub words : start.parts.words.words ≡ flat (first_words opened.start opened.pages)
+  pub words : start.parts.words.words ≡ flat (first_words opened.shape.page_size opened.start opened.pages)
   pub log : start.parts.log ≡ opened.log
   pub data_part : start.parts.store ≡ opened.store
   -- there is room for the history

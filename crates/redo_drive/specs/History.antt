@@ -3,7 +3,7 @@ use Rattle.std.specs.Prelude.{IsPermutation, List, [], map, ℕ}
 use Rattle.std.specs.List.{flat_map}
 use Rattle.std.specs.List.Sorted.{IsNonDecreasingBy}
 use Rattle.model_core.specs.Actors as model
-use Rattle.model_core.specs.{entries_from, entry, UserState}
+use Rattle.model_core.specs.{entries_from, UserState}
 use Rattle.model_running.specs.{history_entry}
 use Rattle.model_report.specs.declared.entry.Entry.{Entry}
 use Rattle.model_report.specs.declared.entry.Marks.{Marks}

@@ -1,7 +1,7 @@
 -- What a run leaves, however its Ops were interleaved: from this the closed run follows, by turns and in threads alike.
 use Rattle.std.specs.Prelude.{Bool, IfSome, List, cond, slice_index, ℕ, ◌≡◌}
-use Rattle.model_core.specs.{Given, HasLost, index}
-use Rattle.model_core.specs.declared.words.Word.TheVariants as word
+use Rattle.model_core.specs.{Given, HasLost}
+use Rattle.model_core.specs.Layout.{failed_at}
 use Rattle.model_running.specs.{history_of, marks_in, word_marks}
 use Rattle.model_theorem.specs.{IsStart}
 use Rattle.model_script.specs.declared.script.ScriptLine.{ScriptLine}
@@ -38,7 +38,7 @@ pub record LeavesWith {L D R : Type 0} (log_seen : L → Seen) (log_gives : L �
   pub log : closed.log ≡ last.log
   pub data_part : closed.store ≡ last.store
   pub marks : closed.marks ≡ marks_in last.words.words
-  pub code : closed.code ≡ slice_index last.words.words (index word.Failed)
+  pub code : closed.code ≡ slice_index last.words.words failed_at
   pub history : closed.history ≡ history_of from.runs.running.log_ghost.answered (word_marks from.runs.running.shared) from.runs.running.log_ghost.log
   -- an archiver that has lost its archive did so by the error that the append has met
   pub lost : cond archive ((code : ℕ) → HasLost (views_of actors) code → code ≡ append_code closed.lost) (Unit {0})

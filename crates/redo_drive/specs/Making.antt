@@ -14,6 +14,7 @@ use Rattle.redo_drive.specs.declared.actor.Actor.{Actor}
 use Rattle.redo_drive.specs.declared.actor.Actor.TheVariants as own
 use Rattle.redo_drive.specs.declared.making.Own.{Own}
 use Rattle.redo_follow.specs.Following.{Following}
+use Rattle.redo_words.specs.{shape_layout}
 
 -- the last actors are these followers, in their order
 abbrev pub EndsWithFollowers : {R : Type 0} → List (Actor R) → List (Following R) → Type 0
@@ -36,9 +37,9 @@ EndsWithReaders start false actors followers = EndsWithFollowers actors follower
 -- of each line.
 pub record IsOwnOf {R : Type 0} (shape : Shape) (pages : List Content) (script : List ScriptLine) (start : ℕ)
     (log_only archive : Bool) (new_followers : List (Following R)) (own : Own R) : Type 0 where
-  pub word_pages : own.words.pages ≡ length pages
+  pub layout : own.words.layout ≡ shape_layout shape
   pub bytes : HoldBytes shape pages
-  pub first : own.words.words ≡ flat (first_words start pages)
+  pub first : own.words.words ≡ flat (first_words shape.page_size start pages)
   pub words : (c : Setup) → StartsOn start shape pages c → AreStartWords own.words.words c
   pub lists : own.lists ≡ empty_lists shape.pages
   pub actors : views_of own.actors.items ≡ seated_actors shape script start log_only archive (length new_followers)

@@ -45,8 +45,8 @@ DataReady part l _ = Unit {0}
 
 -- an Op that may be played on the parts, with what its actor lends
 pub record IsPlayable {L D : Type 0} (parts : Parts L D) (o : Op) (l : Lent) : Type 0 where
-  pub there : OpWords parts.words.pages o
-  pub sum : HoldsSum o parts.words.words
+  pub there : OpWords parts.words.layout o
+  pub sum : HoldsSum parts.words.layout o parts.words.words
   pub listing : ListReady parts.lists.pages (lists_of parts.lists) o
   pub real : (i : ℕ) → Each (λ listed. 0 < listed.oldest) (lists_of parts.lists i)
   pub log : LogReady parts.log l o
@@ -70,13 +70,15 @@ pub record IsPlayed {L D : Type 0} (log_seen : L → Seen) (data_seen : D → Se
   pub log_served : LogServed (run_log_side log_seen data_seen run) old.log l o code new.log
   pub data_served : DataServed (run_data_side log_seen data_seen run) old.store l o code new.store
   pub own_served : OwnServed o code
-  pub words : new.words.words ≡ words_left old.words.words o
+  pub layout : new.words.layout ≡ old.words.layout
+  pub words : new.words.words ≡ words_left old.words.layout old.words.words o
   pub lists : lists_of new.lists ≡ lists_left (lists_of old.lists) (list_word old.words.words) o
-  pub answered : answer ≡ answer_of (lists_of old.lists) (is_some old.log.failed) code new.log.marks.stable old.words.words o
+  pub answered : answer ≡ answer_of old.words.layout (lists_of old.lists) (is_some old.log.failed) code new.log.marks.stable
+      old.words.words o
 
--- the pages stay as many
+-- which words there are stays, and how many pages
 pub record HasSamePages {L D : Type 0} (old new : Parts L D) : Type 0 where
-  pub words : new.words.pages ≡ old.words.pages
+  pub words : new.words.layout ≡ old.words.layout
   pub lists : new.lists.pages ≡ old.lists.pages
 
 -- no device was called

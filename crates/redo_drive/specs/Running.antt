@@ -25,7 +25,7 @@ module _ {L D : Type 0} (log_seen : L → Seen) (data_seen : D → Seen) (run : 
     pub its_page_size : run.shape.page_size ≡ run.setup.page_size
     pub followers : cond archive (Unit {0}) (0 < run.setup.first_reader)
     pub bytes : HasBytes run.setup
-    pub word_pages : parts.words.pages ≡ run.setup.pages
+    pub its_slots : run.shape.slots ≡ run.setup.slots
     pub list_pages : parts.lists.pages ≡ run.setup.pages
     pub running : IsRunning (run_log_side log_seen data_seen run) (run_data_side log_seen data_seen run) run.setup (core_of log_seen data_seen run parts actors)
     pub seated : AreSeated run.setup actors

@@ -51,7 +51,7 @@ readers_of start false followers = followers_from start FIRST_FOLLOWER followers
 abbrev pub page_actors : Shape → (start : ℕ) → (log_only archive : Bool) → (followers : ℕ) → List Actor
 page_actors shape start true archive followers = []
 page_actors shape start false archive followers =
-    actor.Closer new_closer ∷ actor.Cleaner (new_cleaner shape.pages shape.page_size)
+    actor.Closer new_closer ∷ actor.Cleaner (new_cleaner shape.pages shape.page_size shape.slots)
     ∷ actor.Checkpointer (new_checkpointer start (first_reader archive) (FIRST_FOLLOWER + followers)) ∷ []
 
 -- the actors behind the users, before the readers of the log

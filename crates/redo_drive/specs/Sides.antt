@@ -34,6 +34,7 @@ module _ {L D : Type 0} (log_seen : L → Seen) (data_seen : D → Seen) where
   -- its state, with these parts and actors
   abbrev pub core_of : (run : RunOf L D) → Parts L D → List model.Actor → Core (run_log_side run) (run_data_side run)
   core_of run parts actors = record {
+    layout = parts.words.layout;
     words = parts.words.words;
     log_part = parts.log;
     data_part = parts.store;

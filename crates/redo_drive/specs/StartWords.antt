@@ -38,7 +38,7 @@ pub record StartsOn (start : ℕ) (shape : Shape) (pages : List Content) (c : Se
 
 -- these are the words by name, all of them and in their order
 pub record AreNamed (words : Plain) (m : SharedWords) : Type 0 where
-  pub sized : IsSized words.pages m
+  pub sized : IsSized words.layout m
   pub in_order : words.words ≡ flat m
 
 -- the words in their order are those of a store as the run begins
@@ -85,6 +85,7 @@ setup_of shape pages start script log_only archive followers = record {
   blocks = (run_layout shape).blocks;
   pages = shape.pages;
   page_size = shape.page_size;
+  slots = shape.slots;
   log_only = log_only;
   script = programs_of shape log_only script;
   opened = opened_page shape pages;

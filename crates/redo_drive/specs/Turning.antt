@@ -2,11 +2,11 @@
 use Rattle.std.specs.Prelude.{List, slice_index, ℕ, ◌≡◌, ◌⊎◌, is_some}
 use Rattle.model_core.specs.Actors as model
 use Rattle.model_core.specs.AnswerFits.{AnswerFits}
-use Rattle.model_core.specs.{answer_of, filled, Filling, Fills, Given, index, lent, next, step_of, took}
+use Rattle.model_core.specs.{answer_of, filled, Filling, Fills, Given, lent, next, step_of, took}
+use Rattle.model_core.specs.Layout.{failed_at}
 use Rattle.model_core.specs.Turn.{Turn}
 use Rattle.model_core.specs.declared.ops.Answer.{Answer}
 use Rattle.model_core.specs.declared.ops.Step.{Step}
-use Rattle.model_core.specs.declared.words.Word.TheVariants as word
 use Rattle.redo_disk.specs.Seen.{Seen}
 use Rattle.redo_drive.specs.Lists.{lists_of}
 use Rattle.redo_drive.specs.Playing.{HasWholePages, IsPlayable, IsPlayed}
@@ -23,8 +23,10 @@ use Rattle.redo_words.specs.declared.lent.Lent.{Lent}
 pub record MayServe {L D : Type 0} (parts : Parts L D) (who : model.Actor) : Type 0 where
   pub playable : (l : Lent) → Lends l (lent who) → IsPlayable parts (next who) l
   pub whole : HasWholePages parts.store.shape (next who) (lent who)
-  pub fits : (code mark : ℕ) → AnswerFits who (answer_of (lists_of parts.lists) (is_some parts.log.failed) code mark parts.words.words (next who))
-  pub mark : (code mark : ℕ) → MarkFits who (answer_of (lists_of parts.lists) (is_some parts.log.failed) code mark parts.words.words (next who))
+  pub fits : (code mark : ℕ) → AnswerFits who
+      (answer_of parts.words.layout (lists_of parts.lists) (is_some parts.log.failed) code mark parts.words.words (next who))
+  pub mark : (code mark : ℕ) → MarkFits who
+      (answer_of parts.words.layout (lists_of parts.lists) (is_some parts.log.failed) code mark parts.words.words (next who))
 
 -- An actor has had its turn, with what that put into it and with this answer; and what a follower hands on by it, its
 -- receiver got.
@@ -48,7 +50,7 @@ module _ {L D : Type 0} (log_seen : L → Seen) (data_seen : D → Seen) (run : 
 
 -- the code in FAILED
 abbrev pub code_in : {L D : Type 0} → Parts L D → ℕ
-code_in parts = slice_index parts.words.words (index word.Failed)
+code_in parts = slice_index parts.words.words failed_at
 
 -- FAILED's code has a cause: a call of a part answered an error that has this code.
 abbrev pub FailedHasCause : {L D : Type 0} (log_seen : L → Seen) (data_seen : D → Seen) → RunOf L D → Parts L D → Type 0

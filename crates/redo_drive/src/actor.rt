@@ -6,7 +6,7 @@ ghost use Rattle.redo_drive.specs.Receiving.{follower_of};
 ghost use Rattle.redo_drive.specs.Steps.{steps_in_vain};
 ghost use Rattle.redo_drive.specs.Views.{view_of};
 
-use model_core::{FLUSH_LISTS, FRAME_WORDS};
+use model_core::FLUSH_LISTS;
 use redo_archiver::Archiver;
 use redo_follow::{Follower, Receiver};
 use redo_logactors::{Closer, Flusher, Writer};
@@ -55,7 +55,7 @@ impl<R: Receiver> Actor<R> {
             // FAILED, a tail loaded twice and taken, and no link
             Actor::User(_) | Actor::Writer(_) | Actor::Flusher(_) | Actor::Closer(_) => 5,
             // fewer than it takes to load a page
-            Actor::Cleaner(_) => FRAME_WORDS - 1,
+            Actor::Cleaner(cleaner) => cleaner.frame_words().saturating_sub(1),
             // FAILED, CTAIL, each reader's place, and each list taken and given
             Actor::Checkpointer(checkpointer) => {
                 2 + u64::from(checkpointer.reader_count()) + 2 * FLUSH_LISTS

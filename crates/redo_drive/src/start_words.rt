@@ -1,15 +1,16 @@
 // The words of a store as a run begins.
 ghost use Rattle.std.specs.Prelude.{◌<◌, ◌^◌, ◌≡◌, ◌≤◌, ℕ, IfOk, length, slice_index};
 ghost use Rattle.model_base.specs.{IsWithinLimits};
-ghost use Rattle.model_core.specs.{IsWord, SharedWords, flat, wrote};
+ghost use Rattle.model_core.specs.{frame_words, IsWord, SharedWords, flat, wrote};
 ghost use Rattle.model_core.specs.Setup.{Setup};
 ghost use Rattle.model_log.specs.{IsAtDataStart};
 ghost use Rattle.redo_apply.specs.{ArePagesOf};
-ghost use Rattle.redo_drive.specs.FirstWords.{first_places, first_words, page_frame};
+ghost use Rattle.redo_drive.specs.FirstWords.{cells_word, first_places, first_words, page_frame};
+ghost use Rattle.redo_words.specs.{shape_layout};
 ghost use Rattle.redo_drive.specs.StartWords.{AreNamed, AreStartWords, HoldBytes, IsBlankFrame, StartsOn, with_frame, with_log};
 
 use model_base::{BLOCK_SIZE, MAX_PAGE_SIZE, Shape, USER_START};
-use model_core::{BUFFER_BLOCKS, FRAME_WORDS, READERS};
+use model_core::{BUFFER_BLOCKS, READERS, WORD_LANES};
 use model_log::BLOCK_HEADER;
 use redo_apply::Pages;
 use redo_link::tail_word;
@@ -19,8 +20,8 @@ use std::alloc::Global;
 
 /// Gives a word its first number.
 fn set(words: &mut PlainWords, word: Word, number: u64)
-    requires { IsWord words.old.pages word }
-    ensures pages { words.new.pages ≡ words.old.pages }
+    requires { IsWord words.old.layout word }
+    ensures layout { words.new.layout ≡ words.old.layout }
     ensures named { (m : SharedWords) → AreNamed words.old m → AreNamed words.new (wrote m word number) }
 {
     let _ = words.play(Op::Store(word, number));
@@ -43,7 +44,7 @@ fn first_place(start: u64, reader: u32) -> u64
 /// Gives the words of the readers of the log their places.
 fn set_places(words: &mut PlainWords, start: u64)
     requires { BLOCK_HEADER ≤ start }
-    ensures pages { words.new.pages ≡ words.old.pages }
+    ensures layout { words.new.layout ≡ words.old.layout }
     ensures named { (m : SharedWords) → AreNamed words.old m
         → AreNamed words.new (record m { places = first_places start }) }
 {
@@ -56,7 +57,7 @@ fn set_places(words: &mut PlainWords, start: u64)
 fn set_log(words: &mut PlainWords, start: u64)
     requires header { BLOCK_HEADER ≤ start }
     requires small { start < 2 ^ 61 }
-    ensures pages { words.new.pages ≡ words.old.pages }
+    ensures layout { words.new.layout ≡ words.old.layout }
     ensures named { (m : SharedWords) → AreNamed words.old m → AreNamed words.new (with_log start m) }
 {
     set(words, Word::Sn, sn_of(start));
@@ -70,11 +71,11 @@ fn set_log(words: &mut PlainWords, start: u64)
     set_places(words, start);
 }
 
-/// A word of a page's frame, by the page's user bytes.
+/// A word of a frame, by the page's user bytes.
 fn frame_word(user: &[u8], number: u32) -> u64
     requires short { length user.now ≤ MAX_PAGE_SIZE }
-    requires there { number < FRAME_WORDS }
-    ensures { result ≡ slice_index (page_frame user.now) number }
+    requires few { number < 2 ^ 29 }
+    ensures { result ≡ cells_word user.now number }
 {
     let first = (number * 8) as usize;
     let start = USER_START as usize;
@@ -88,14 +89,15 @@ fn frame_word(user: &[u8], number: u32) -> u64
 }
 
 /// Writes a page's user bytes into its frame, whose words are all 0.
-fn set_frame(words: &mut PlainWords, page: u32, user: &[u8])
-    requires there { page < words.old.pages }
+fn set_frame(words: &mut PlainWords, page: u32, page_size: u32, user: &[u8])
+    requires there { page < words.old.layout.pages }
+    requires its_size { words.old.layout.page_size ≡ page_size }
     requires short { length user.now ≤ MAX_PAGE_SIZE }
-    ensures pages { words.new.pages ≡ words.old.pages }
+    ensures layout { words.new.layout ≡ words.old.layout }
     ensures bytes { (i : ℕ) → slice_index user.now i < 256 }
-    ensures named { (m : SharedWords) → AreNamed words.old m → IsBlankFrame page m → AreNamed words.new (with_frame page (page_frame user.now) m) }
+    ensures named { (m : SharedWords) → AreNamed words.old m → IsBlankFrame page m → AreNamed words.new (with_frame page (page_frame page_size user.now) m) }
 {
-    for number in 0..FRAME_WORDS as u32 {
+    for number in 0..page_size / WORD_LANES as u32 {
         set(words, Word::Frame(page, number), frame_word(user, number));
     }
 }
@@ -111,16 +113,15 @@ pub fn start_words(
     requires its_pages { ArePagesOf shape.now pages.now }
     requires place { IsAtDataStart start }
     requires small { start < 2 ^ 61 }
-    ensures pages { IfOk result (λ words. words.pages ≡ length pages.now) }
+    ensures layout { IfOk result (λ words. words.layout ≡ shape_layout shape.now) }
     ensures bytes { IfOk result (λ _. HoldBytes shape.now pages.now) }
-    ensures first { IfOk result (λ words. words.words ≡ flat (first_words start pages.now)) }
+    ensures first { IfOk result (λ words. words.words ≡ flat (first_words shape.now.page_size start pages.now)) }
     ensures starts { IfOk result (λ words. (c : Setup) → StartsOn start shape.now pages.now c → AreStartWords words.words c) }
 {
-    let count = shape.pages;
-    let mut words = PlainWords::new(alloc, count)?;
+    let mut words = PlainWords::new(alloc, shape)?;
     set_log(&mut words, start);
-    for page in 0..count {
-        set_frame(&mut words, page, pages.user_bytes(page));
+    for page in 0..shape.pages {
+        set_frame(&mut words, page, shape.page_size, pages.user_bytes(page));
     }
     Ok(words)
 }

@@ -10,7 +10,7 @@ loop-reader-preserved c =
     let loop = c.loop-reader in
     rw add-one
     (places_more c.args.words.now c.args.start loop.words c.set.new.words loop.reader c.first_place.result
-    loop.invariant (omega arith) c.first_place.ensures c.set.ensures.pages c.set.ensures.named)
+    loop.invariant (omega arith) c.first_place.ensures c.set.ensures.layout c.set.ensures.named)
 
 pub returns-clause-named : goal.returns-clause-named
 returns-clause-named c =
