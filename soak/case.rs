@@ -380,7 +380,7 @@ impl Case<'_> {
             "gen 1 1 1000001",
             "gen 1 1 1 1",
             "format --pages 0",
-            "format --pages 65",
+            "format --pages 1025",
             "format --space 4294967296",
             "format --log-blocks 1023",
             "format --log-blocks 1048577",
