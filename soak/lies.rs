@@ -35,6 +35,7 @@ mod report;
 #[allow(dead_code)]
 mod restoring;
 mod script;
+#[allow(dead_code)]
 mod shape;
 mod since;
 #[allow(dead_code)]

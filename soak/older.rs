@@ -142,7 +142,7 @@ fn with_slots_of(draws: &mut Draws, data: &[u8], new: &Shape, old: &Shape) -> Ve
         return data.to_vec();
     }
     let mut whole = data.to_vec();
-    whole.resize(whole.len().max(length_of(new)), 0);
+    whole.resize(whole.len().max(new.data_length()), 0);
     let (slots, places) = whole.split_at(PAGE * new.slots as usize);
     let mut made = match draws.below(4) {
         0 => vec![0; whole.len()],
@@ -158,14 +158,9 @@ fn with_slots_of(draws: &mut Draws, data: &[u8], new: &Shape, old: &Shape) -> Ve
         made.copy_from_slice(kept(place, slots, number, old));
     }
     if draws.once_in(3) {
-        made.truncate(length_of(old));
+        made.truncate(old.data_length());
     }
     made
-}
-
-/// Bytes of a data device.
-fn length_of(shape: &Shape) -> usize {
-    PAGE * (shape.slots + shape.pages) as usize
 }
 
 /// What the place of a page has to hold where only the slots of the old shape stay: what it held, or the copy that counts.

@@ -34,6 +34,16 @@ impl Shape {
     pub fn ring(&self) -> u64 {
         BLOCK * (u64::from(self.log_blocks) - 2)
     }
+
+    /// Bytes of its log device: four blocks stand before those of the log.
+    pub fn log_length(&self) -> u64 {
+        BLOCK * (4 + u64::from(self.log_blocks))
+    }
+
+    /// Bytes of its data device.
+    pub fn data_length(&self) -> usize {
+        PAGE * (self.slots + self.pages) as usize
+    }
 }
 
 pub const DEFAULT_SHAPE: Shape = Shape {

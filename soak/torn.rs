@@ -33,6 +33,7 @@ mod report;
 #[allow(dead_code)]
 mod restoring;
 mod script;
+#[allow(dead_code)]
 mod shape;
 mod texts;
 
