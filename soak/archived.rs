@@ -6,7 +6,8 @@ use crate::lsn::{block_of, start_after};
 use crate::pages::Pages;
 use crate::report::Report;
 use crate::restoring::{Reading, Whole};
-use crate::script::{Line, Shape};
+use crate::script::Line;
+use crate::shape::Shape;
 use std::collections::BTreeSet;
 
 /// The archive of a run, as far as the script and the report say it.

@@ -1,6 +1,7 @@
 //! Makes archives by seeds, damages most of them, and compares what `restore` answers with a reader of its own.
 
 mod archiving;
+#[allow(dead_code)]
 mod crc;
 mod damaging;
 mod decoding;
@@ -15,6 +16,8 @@ mod program;
 mod restoring;
 #[allow(dead_code)]
 mod script;
+#[allow(dead_code)]
+mod shape;
 mod spoiling;
 mod texts;
 

@@ -4,7 +4,8 @@ use crate::crc::{PAGE, SECTOR, crc32c, put_field, seal_sector};
 use crate::draws::Draws;
 use crate::lsn::{BLOCK, BLOCK_DATA, BLOCK_HEADER, FIRST, behind, block_of, lsn_of, sn_of};
 use crate::restoring::{HEADER, LIMIT};
-use crate::script::{MOST_BYTES, Op, Shape, USER_END, USER_START};
+use crate::script::{MOST_BYTES, Op, USER_END, USER_START};
+use crate::shape::{EARLY_SLOTS, SLOTS, Shape, put_sizes};
 use crate::spoiling::{spoil_texts, text_of};
 use std::collections::BTreeMap;
 
@@ -97,10 +98,21 @@ pub fn ends_of(start: u64, texts: &[Vec<u8>]) -> Vec<u64> {
 }
 
 fn draw_shape(draws: &mut Draws) -> Shape {
+    let slots = draws.one_of(&[EARLY_SLOTS, SLOTS, SLOTS]);
     Shape {
-        pages: draws.one_of(&[1, 1, 2, 2, 3, 8, 8, 8, 9, 17, 64]),
+        pages: draw_pages(draws, slots),
         space: draws.one_of(&[0, 1, 1, 127, 128, 16_384, u32::MAX - 70_000, u32::MAX]),
         log_blocks: draws.one_of(&[1_024, 1_025, 2_048, 2_048, 1_048_576]),
+        slots,
+    }
+}
+
+/// How many pages a store of so many slots has. Many take long.
+fn draw_pages(draws: &mut Draws, slots: u32) -> u32 {
+    if slots == SLOTS && draws.once_in(24) {
+        draws.one_of(&[65, 200, 1_024])
+    } else {
+        draws.one_of(&[1, 1, 2, 2, 3, 8, 8, 8, 9, 17, 64])
     }
 }
 
@@ -256,10 +268,7 @@ pub fn put_head(sector: &mut [u8], shape: &Shape, start: u64) {
     put_field(sector, 0, 4, 1);
     put_field(sector, 8, 8, start);
     sector[16..25].copy_from_slice(b"redolab A");
-    let sizes = [PAGE as u32, shape.pages, shape.space, shape.log_blocks, 8];
-    for (place, value) in sizes.into_iter().enumerate() {
-        put_field(sector, 48 + 4 * place, 4, u64::from(value));
-    }
+    put_sizes(sector, shape);
     seal_sector(sector);
 }
 

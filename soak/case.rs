@@ -13,6 +13,7 @@ use crate::places::Place;
 use crate::program::{Call, Program, words_of};
 use crate::report::Report;
 use crate::script::{Line, misfit};
+use crate::shape::{DEFAULT_SHAPE, Shape};
 use crate::times::Times;
 use std::fs;
 use std::path::Path;
@@ -110,6 +111,7 @@ impl Case<'_> {
                 Chain::new(self).run()
             }
             0 => self.run_generated(),
+            1 if self.draws.once_in(4) => self.run_format(),
             1 => self.run_words(),
             2..=4 => {
                 self.tally.chains += 1;
@@ -347,6 +349,28 @@ impl Case<'_> {
         call.answers(0, &line)
     }
 
+    /// Formatting in memory, where the devices are as long as the default sizes ask for.
+    fn run_format(&mut self) -> Result<(), String> {
+        let shape = Shape {
+            pages: self.draws.one_of(&[1, 7, 8, 8, 9, 64, 65, 1_024]),
+            log_blocks: self.draws.one_of(&[1_024, 2_047, 2_048, 2_048, 2_049]),
+            ..DEFAULT_SHAPE
+        };
+        let Shape {
+            pages, log_blocks, ..
+        } = shape;
+        let words = format!("format --pages {pages} --log-blocks {log_blocks}");
+        let call = self.call(&words_of(&words), "")?;
+        let (log, store) = (shape.log_length(), shape.data_length());
+        if DEFAULT_SHAPE.log_length() < log {
+            call.answers(10, &format!("fault fit log {log}\n"))
+        } else if DEFAULT_SHAPE.data_length() < store {
+            call.answers(10, &format!("fault fit store {store}\n"))
+        } else {
+            call.answers(0, "formatted 8192\n")
+        }
+    }
+
     /// Words that are no command.
     fn run_words(&mut self) -> Result<(), String> {
         let words = self.draws.one_of(&[
@@ -380,7 +404,7 @@ impl Case<'_> {
             "gen 1 1 1000001",
             "gen 1 1 1 1",
             "format --pages 0",
-            "format --pages 65",
+            "format --pages 1025",
             "format --space 4294967296",
             "format --log-blocks 1023",
             "format --log-blocks 1048577",

@@ -4,7 +4,7 @@ use crate::case::{ARCHIVE_FILE, Case, Left};
 use crate::checking::Store;
 use crate::listing::{check_dump, check_recover, read_of};
 use crate::program::words_of;
-use crate::script::{DEFAULT_SHAPE, Shape};
+use crate::shape::{DEFAULT_SHAPE, SLOTS, Shape};
 use std::fs;
 
 pub struct Chain<'a, 'b> {
@@ -17,6 +17,10 @@ pub struct Chain<'a, 'b> {
 }
 
 const FILES: [&str; 3] = ["redo.log", "redo.data", ARCHIVE_FILE];
+/// How many pages its stores have.
+const PAGES: [u32; 12] = [1, 2, 8, 8, 8, 9, 17, 64, 64, 65, 200, 1_024];
+/// The format of a store that the program makes.
+const FORMAT: u64 = 3;
 
 impl<'a, 'b> Chain<'a, 'b> {
     pub fn new(case: &'a mut Case<'b>) -> Chain<'a, 'b> {
@@ -66,18 +70,20 @@ impl<'a, 'b> Chain<'a, 'b> {
     fn format(&mut self) -> Result<(), String> {
         let draws = &mut self.case.draws;
         let shape = Shape {
-            pages: draws.one_of(&[1, 2, 8, 8, 9, 17, 64]),
+            pages: draws.one_of(&PAGES),
             space: draws.one_of(&[0, 1, 1, 127, 128, 16_384, u32::MAX - 70_000, u32::MAX]),
             log_blocks: if self.is_wide {
                 1_024
             } else {
                 draws.one_of(&[1_024, 1_025, 1_500, DEFAULT_SHAPE.log_blocks])
             },
+            slots: SLOTS,
         };
         let Shape {
             pages,
             space,
             log_blocks,
+            ..
         } = shape;
         let text =
             format!("format --files --pages {pages} --space {space} --log-blocks {log_blocks}");
@@ -131,7 +137,7 @@ impl<'a, 'b> Chain<'a, 'b> {
             return call.answers(8, "fault store unformatted\n");
         }
         call.has_succeeded()?;
-        let groups = check_dump(&mut self.store, 2, &call.printed)?;
+        let groups = check_dump(&mut self.store, FORMAT, &call.printed)?;
         let call = self.case.call(&words_of("recover --files"), "")?;
         call.has_succeeded()?;
         check_recover(&self.store, &read_of(&call.printed)?, groups)

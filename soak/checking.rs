@@ -4,7 +4,8 @@ use crate::following::check_follows;
 use crate::lsn::{BLOCK, BLOCK_HEADER, FIRST, behind, start_after};
 use crate::pages::Pages;
 use crate::report::{Entry, Marks, Recovered, Report, State};
-use crate::script::{DEFAULT_SHAPE, Line, MOST_USERS, Mode, Op, Shape, group_length};
+use crate::script::{Line, MOST_USERS, Mode, Op, group_length};
+use crate::shape::{DEFAULT_SHAPE, Shape};
 use std::collections::BTreeSet;
 
 /// A group that a store's log holds.

@@ -70,13 +70,29 @@ pub fn seal_sector(sector: &mut [u8]) {
     put_field(sector, SECTOR - 4, 4, u64::from(sum));
 }
 
-/// Whether a page counts as one: all zero, or with checksums and an lsn that fit.
-pub fn fits_page(page: &[u8]) -> bool {
-    if page.iter().all(|byte| *byte == 0) {
-        return true;
-    }
+fn is_blank(page: &[u8]) -> bool {
+    page.iter().all(|byte| *byte == 0)
+}
+
+/// Whether a page's checksums and its lsn fit.
+fn is_sound(page: &[u8]) -> bool {
     let sum = u64::from(crc32c(&page[4..PAGE - 8]));
     field(page, 0, 4) == sum
         && field(page, PAGE - 8, 4) == sum
         && field(page, PAGE - 4, 4) == field(page, 20, 4)
+}
+
+/// Whether a page counts as one: all zero, or with checksums and an lsn that fit.
+pub fn fits_page(page: &[u8]) -> bool {
+    is_blank(page) || is_sound(page)
+}
+
+/// Whether a slot holds a copy that passes for the page of this number.
+pub fn is_copy(page: &[u8], number: u32, space: u32) -> bool {
+    field(page, 4, 4) == number.into() && field(page, 34, 4) == space.into() && is_sound(page)
+}
+
+/// Whether what stands in the place of the page of this number passes.
+pub fn is_place(page: &[u8], number: u32, space: u32) -> bool {
+    is_blank(page) || is_copy(page, number, space)
 }

@@ -204,14 +204,18 @@ fn change_head(draws: &mut Draws, archive: &mut Archive) {
             4,
             draws.one_of(&[0, 2_048, 4_095, 8_192, 16_384, 65_536]),
         ),
-        7 => (52, 4, draws.one_of(&[0, 1, 2, 64, 65, 0xFFFF_FFFF])),
+        7 => (
+            52,
+            4,
+            draws.one_of(&[0, 1, 2, 64, 65, 1_024, 1_025, 0xFFFF_FFFF]),
+        ),
         8 => (56, 4, draws.below(3)),
         9 => (
             60,
             4,
             draws.one_of(&[0, 1_023, 1_024, 1_048_576, 1_048_577]),
         ),
-        10 => (64, 4, draws.one_of(&[0, 7, 9, 128])),
+        10 => (64, 4, draws.one_of(&[0, 7, 8, 9, 127, 128, 129])),
         _ => (draws.within(68, 500) as usize, 8, draws.number()),
     };
     put_field(head, at, length, value);

@@ -8,7 +8,7 @@ use crate::events::{
     ARCHIVE, Archiving, DATA, DEVICES, Event, LOG, What, archiving_of, calls_of, first_archived,
 };
 use crate::files::{Asking, Files, Kill, On};
-use crate::layout::{HEADS, in_format_1, is_unused};
+use crate::layout::{HEADS, Head, is_unused};
 use crate::listing::{check_dump, check_recover, read_of};
 use crate::lsn::start_after;
 use crate::making::{draw_full_script, draw_script, text_of};
@@ -16,11 +16,13 @@ use crate::moments::{
     Stage, after_last_write, draw_moment, draw_moment_before_sync, draw_moment_of_run, opened,
     stage_of,
 };
+use crate::older::{Older, older};
 use crate::options::{Options, draw_archive, draw_followers, draw_own_writes, draw_turns};
 use crate::program::{Call, words_of};
 use crate::report::Report;
 use crate::restoring::Reading;
-use crate::script::{DEFAULT_SHAPE, Line, MOST_BYTES, Shape, group_length, misfit};
+use crate::script::{Line, MOST_BYTES, group_length, misfit};
+use crate::shape::{DEFAULT_SHAPE, SLOTS, Shape};
 use crate::since::{Run, Since};
 use crate::tally::Tally;
 use crate::tears::{Cut, draw_junk};
@@ -40,6 +42,8 @@ pub const RUNS_OF_A_STORE: u64 = 110;
 const SPREAD: u64 = 90;
 /// After so many calls without a cut there is one.
 const MOST_STEPS: usize = 6;
+/// How many pages stores have. Many take long.
+const PAGES: [u32; 16] = [1, 2, 2, 8, 8, 8, 8, 8, 9, 17, 17, 64, 64, 65, 200, 1_024];
 
 /// A store at work.
 pub struct History<'a> {
@@ -130,13 +134,13 @@ impl<'a> History<'a> {
         let Some(store) = self.store.clone() else {
             return self.begin();
         };
-        let format = self.files.head()?.format;
+        let head = self.files.head()?;
         // what is put into the files stands there for good, so nothing may be pending
-        if format == 2 && self.since.is_empty() && self.draws.once_in(10) {
-            self.make_older(store.clone())?;
+        if self.since.is_empty() && self.becomes_older(&head) {
+            return self.make_older(store);
         }
-        if format == 2 && self.since.is_empty() && self.draws.once_in(30) {
-            self.break_head(store.clone())?;
+        if self.since.is_empty() && head.format != 1 && self.draws.once_in(30) {
+            return self.break_head(store);
         }
         // a store that a killed call has formatted isn't formatted again before a cut
         if !self.since.may_have_head() && self.draws.once_in(30) {
@@ -327,10 +331,18 @@ impl<'a> History<'a> {
         Ok(events)
     }
 
-    /// Makes the store one of format 1, which the next run brings to format 2.
-    fn make_older(&mut self, store: Store) -> Result<(), String> {
-        let made = in_format_1(&mut self.draws, &self.files.contents[LOG])?;
-        self.files.put(LOG, made)?;
+    /// Whether the store becomes one of an older format. One of format 3 mostly stays one.
+    fn becomes_older(&mut self, head: &Head) -> bool {
+        let seldom = if head.format == 2 { 10 } else { 20 };
+        head.may_be_older() && self.draws.once_in(seldom)
+    }
+
+    /// Makes the store one of an older format. The next run brings one of format 1 to format 2.
+    fn make_older(&mut self, mut store: Store) -> Result<(), String> {
+        let Older { shape, log, data } = older(&mut self.draws, &self.files.contents)?;
+        self.files.put(LOG, log)?;
+        self.files.put(DATA, data)?;
+        store.shape = shape;
         self.take_made(store)
     }
 
@@ -359,13 +371,14 @@ impl<'a> History<'a> {
     fn draw_shape(&mut self) -> Shape {
         let draws = &mut self.draws;
         Shape {
-            pages: draws.one_of(&[1, 2, 8, 8, 8, 9, 17, 64]),
+            pages: draws.one_of(&PAGES),
             space: draws.one_of(&[0, 1, 1, 128, u32::MAX]),
             log_blocks: if self.is_wide {
                 1_024
             } else {
                 draws.one_of(&[1_024, 1_024, 1_025, 1_500, DEFAULT_SHAPE.log_blocks])
             },
+            slots: SLOTS,
         }
     }
 
@@ -376,6 +389,7 @@ impl<'a> History<'a> {
             pages,
             space,
             log_blocks,
+            ..
         } = shape;
         let words =
             format!("format --files --pages {pages} --space {space} --log-blocks {log_blocks}");

@@ -1,28 +1,27 @@
-//! The log device of both formats: its heads, checkpoints and blocks; and a store of format 2 made one of format 1.
+//! The log device of all formats: its heads, checkpoints and blocks.
 
 use crate::crc::{SECTOR, field, fits_sector, put_field, seal_sector};
-use crate::draws::Draws;
-use crate::lsn::{BLOCK, BLOCK_HEADER, block_of};
-use crate::script::Shape;
+use crate::lsn::{BLOCK, BLOCK_HEADER};
+use crate::shape::{MOST_EARLY_PAGES, Shape, put_sizes, shape_of};
 
-const START: u64 = 8_192;
+pub const START: u64 = 8_192;
 /// The sectors of the heads; format 1 has the first alone.
 pub const HEADS: [usize; 2] = [0, 2];
 /// The sectors of the checkpoints of even and odd number.
 const CHECKPOINTS: [usize; 2] = [1, 3];
-/// The sectors of the tail blocks of format 2.
-const TAILS: [usize; 2] = [4, 5];
+/// The sectors of the tail blocks, which format 1 doesn't have.
+pub const TAILS: [usize; 2] = [4, 5];
 const BUFFER: u64 = 65_536;
 /// A block of this length at the most isn't full.
 const MOST_PART: u64 = 507;
 
 /// Sector of the device, of zeros where it ends before.
-fn sector(log: &[u8], number: usize) -> &[u8] {
+pub fn sector(log: &[u8], number: usize) -> &[u8] {
     log.get(number * SECTOR..(number + 1) * SECTOR)
         .unwrap_or(&[0; SECTOR])
 }
 
-fn put_sector(log: &mut [u8], number: usize, bytes: &[u8]) {
+pub fn put_sector(log: &mut [u8], number: usize, bytes: &[u8]) {
     log[number * SECTOR..(number + 1) * SECTOR].copy_from_slice(bytes);
 }
 
@@ -37,11 +36,7 @@ impl Head {
         let is_head = fits_sector(bytes) && field(bytes, 8, 8) == START;
         is_head.then(|| Head {
             format: field(bytes, 0, 4),
-            shape: Shape {
-                pages: field(bytes, 52, 4) as u32,
-                space: field(bytes, 56, 4) as u32,
-                log_blocks: field(bytes, 60, 4) as u32,
-            },
+            shape: shape_of(bytes),
         })
     }
 
@@ -52,6 +47,11 @@ impl Head {
             .into_iter()
             .find(|bytes| fits_sector(bytes));
         whole.and_then(Head::of)
+    }
+
+    /// Whether a store of an older format may have the same pages.
+    pub fn may_be_older(&self) -> bool {
+        self.format > 1 && self.shape.pages <= MOST_EARLY_PAGES
     }
 
     fn first_block(&self) -> u64 {
@@ -68,7 +68,7 @@ impl Head {
         BLOCK * self.first_block() + (lsn - START) % (BLOCK * self.ring())
     }
 
-    fn place_of(&self, lsn: u64) -> usize {
+    pub fn place_of(&self, lsn: u64) -> usize {
         (self.offset_of(lsn) / BLOCK) as usize
     }
 }
@@ -106,7 +106,7 @@ impl Block {
         })
     }
 
-    fn is_full(&self) -> bool {
+    pub fn is_full(&self) -> bool {
         self.length == BLOCK
     }
 
@@ -122,12 +122,12 @@ impl Block {
 
 /// A checkpoint that passes.
 #[derive(Clone, Copy)]
-struct Checkpoint {
-    number: u64,
-    lsn: u64,
+pub struct Checkpoint {
+    pub number: u64,
+    pub lsn: u64,
 }
 
-fn checkpoint_of(log: &[u8], head: &Head) -> Option<Checkpoint> {
+pub fn checkpoint_of(log: &[u8], head: &Head) -> Option<Checkpoint> {
     let passing = |(parity, number): (usize, usize)| {
         let bytes = sector(log, number);
         let found = Checkpoint {
@@ -145,7 +145,7 @@ fn checkpoint_of(log: &[u8], head: &Head) -> Option<Checkpoint> {
     both.max_by_key(|found| found.number)
 }
 
-fn put_checkpoint(log: &mut [u8], head: &Head, checkpoint: Checkpoint) {
+pub fn put_checkpoint(log: &mut [u8], head: &Head, checkpoint: Checkpoint) {
     let mut bytes = vec![0; SECTOR];
     put_field(&mut bytes, 0, 8, checkpoint.number);
     put_field(&mut bytes, 8, 8, checkpoint.lsn);
@@ -156,24 +156,17 @@ fn put_checkpoint(log: &mut [u8], head: &Head, checkpoint: Checkpoint) {
     put_sector(log, number, &bytes);
 }
 
-fn head_text(head: &Head) -> Vec<u8> {
+pub fn head_text(head: &Head) -> Vec<u8> {
     let mut bytes = vec![0; SECTOR];
     put_field(&mut bytes, 0, 4, head.format);
     put_field(&mut bytes, 8, 8, START);
     bytes[16..25].copy_from_slice(b"redolab 1");
-    let Shape {
-        pages,
-        space,
-        log_blocks,
-    } = head.shape;
-    for (place, value) in [4_096, pages, space, log_blocks, 8].into_iter().enumerate() {
-        put_field(&mut bytes, 48 + 4 * place, 4, u64::from(value));
-    }
+    put_sizes(&mut bytes, &head.shape);
     seal_sector(&mut bytes);
     bytes
 }
 
-/// The block that a reader of format 2 takes at this lsn.
+/// The block that a reader of format 2 or 3 takes at this lsn.
 fn taken(log: &[u8], head: &Head, lsn: u64) -> Option<(Block, Vec<u8>)> {
     let at = |number: usize| {
         let bytes = sector(log, number);
@@ -190,8 +183,8 @@ fn taken(log: &[u8], head: &Head, lsn: u64) -> Option<(Block, Vec<u8>)> {
     in_place.or(tail)
 }
 
-/// The blocks that are read of a log of format 2.
-fn scanned(log: &[u8], head: &Head, checkpoint: &Checkpoint) -> Vec<(Block, Vec<u8>)> {
+/// The blocks that are read of a log of format 2 or 3.
+pub fn scanned(log: &[u8], head: &Head, checkpoint: &Checkpoint) -> Vec<(Block, Vec<u8>)> {
     let mut blocks = Vec::new();
     for count in 0..head.ring() {
         let Some((block, bytes)) = taken(log, head, checkpoint.lsn + count * BLOCK) else {
@@ -203,84 +196,4 @@ fn scanned(log: &[u8], head: &Head, checkpoint: &Checkpoint) -> Vec<(Block, Vec<
         }
     }
     blocks
-}
-
-/// The log of format 1 that reads as this one of format 2 does. What a reader of format 1 doesn't look at is zero, or anything.
-pub fn in_format_1(draws: &mut Draws, log: &[u8]) -> Result<Vec<u8>, String> {
-    let new = Head::of_log(log).filter(|head| head.format == 2);
-    let new = new.ok_or("no head of format 2")?;
-    let old = Head { format: 1, ..new };
-    let checkpoint = checkpoint_of(log, &new).ok_or("no checkpoint of format 2")?;
-    let mut made = vec![0; log.len()];
-    if draws.once_in(2) {
-        litter(draws, &mut made, &new, checkpoint.lsn);
-    }
-    let mut next = checkpoint.lsn;
-    for (block, mut bytes) in scanned(log, &new, &checkpoint) {
-        if !block.is_full() {
-            put_field(&mut bytes, 8, 4, checkpoint.number & 0xFFFF_FFFF);
-            seal_sector(&mut bytes);
-        }
-        put_sector(&mut made, old.place_of(block.lsn), &bytes);
-        next = block.lsn + BLOCK;
-    }
-    // what follows the last block isn't taken for the next
-    put_sector(&mut made, old.place_of(next), &[0; SECTOR]);
-    put_heads(draws, &mut made, log, &old);
-    put_checkpoints(draws, &mut made, &old, checkpoint);
-    Ok(made)
-}
-
-/// A head of format 1 in the first block and anything in the other, or a broken first block and the head in the other.
-fn put_heads(draws: &mut Draws, made: &mut [u8], log: &[u8], old: &Head) {
-    let mut junk = vec![0; SECTOR];
-    junk.iter_mut()
-        .for_each(|byte| *byte = draws.number() as u8);
-    let head = head_text(old);
-    let (first, second) = match draws.below(8) {
-        0 => (&junk[..], &head[..]),
-        1 => (&head[..], &head[..]),
-        2 => (&head[..], &junk[..]),
-        3 => (&head[..], sector(log, HEADS[1])),
-        _ => (&head[..], &[0; SECTOR][..]),
-    };
-    put_sector(made, HEADS[0], first);
-    put_sector(made, HEADS[1], second);
-}
-
-fn put_checkpoints(draws: &mut Draws, made: &mut [u8], old: &Head, checkpoint: Checkpoint) {
-    if let Some(number) = checkpoint.number.checked_sub(1)
-        && draws.once_in(2)
-    {
-        let lsn = draws.one_of(&[START, checkpoint.lsn]);
-        put_checkpoint(made, old, Checkpoint { number, lsn });
-    }
-    put_checkpoint(made, old, checkpoint);
-}
-
-/// Puts blocks of some lsns and junk into the ring, many where format 2 has the block of that lsn.
-fn litter(draws: &mut Draws, made: &mut [u8], new: &Head, lsn: u64) {
-    for _ in 0..draws.within(1, 40) {
-        let at = block_of(lsn) + BLOCK * draws.below(80);
-        let at = at.saturating_sub(BLOCK * draws.below(40)).max(START);
-        let length = draws.one_of(&[BLOCK, BLOCK, 12, 40, 507]);
-        let mut bytes = vec![0; SECTOR];
-        for eight in bytes.chunks_exact_mut(8) {
-            eight.copy_from_slice(&draws.number().to_be_bytes());
-        }
-        put_field(&mut bytes, 0, 4, at / BLOCK % (1 << 30) + 1);
-        put_field(&mut bytes, 4, 2, length);
-        put_field(&mut bytes, 6, 2, draws.one_of(&[0, BLOCK_HEADER]));
-        put_field(&mut bytes, 8, 4, draws.below(2));
-        if !draws.once_in(8) {
-            seal_sector(&mut bytes);
-        }
-        let ring = new.shape.log_blocks as usize;
-        let place = match draws.below(4) {
-            0 => 4 + draws.below(ring as u64) as usize,
-            1 => draws.one_of(&TAILS),
-            _ => new.place_of(at),
-        };
-        put_sector(made, place, &bytes);
-    }
 }

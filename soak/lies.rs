@@ -25,6 +25,7 @@ mod lsn;
 #[allow(dead_code)]
 mod making;
 mod moments;
+mod older;
 #[allow(dead_code)]
 mod options;
 mod pages;
@@ -34,6 +35,8 @@ mod report;
 #[allow(dead_code)]
 mod restoring;
 mod script;
+#[allow(dead_code)]
+mod shape;
 mod since;
 #[allow(dead_code)]
 mod tally;

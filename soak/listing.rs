@@ -61,8 +61,8 @@ pub fn check_dump(store: &mut Store, format: u64, text: &str) -> Result<usize, S
     let mut lines = text.split_inclusive('\n').peekable();
     let shape = &store.shape;
     let wanted = format!(
-        "store 4096 {} {} {} 8\n",
-        shape.pages, shape.space, shape.log_blocks
+        "store 4096 {} {} {} {}\n",
+        shape.pages, shape.space, shape.log_blocks, shape.slots
     );
     if lines.next() != Some(&wanted) {
         return Err(format!("`dump` should begin with {wanted}"));
@@ -144,7 +144,7 @@ fn firsts(store: &Store) -> HashMap<u64, u64> {
 fn check_blocks(store: &Store, format: u64, blocks: &[Block], number: u64) -> Result<(), String> {
     let firsts = firsts(store);
     // a tail block tells how often the numbers went round, and no checkpoint
-    let is_tail = |block: &Block| format == 2 && block.length != BLOCK;
+    let is_tail = |block: &Block| format != 1 && block.length != BLOCK;
     let mut lsn = store.checkpoint;
     let mut newest = 0;
     for (place, block) in blocks.iter().enumerate() {

@@ -11,7 +11,8 @@ use crate::making::{draw_full_script, draw_script, text_of};
 use crate::options::{Options, draw_turns};
 use crate::program::{Call, Program, words_of};
 use crate::reads::{About, Lie, Read, reads_of};
-use crate::script::{DEFAULT_SHAPE, MOST_BYTES, Shape, group_length};
+use crate::script::{MOST_BYTES, group_length};
+use crate::shape::{DEFAULT_SHAPE, MOST_EARLY_PAGES, MOST_PAGES, Shape};
 use crate::unlike::prepare;
 use std::fs;
 use std::path::{Path, PathBuf};
@@ -186,7 +187,8 @@ impl<'a> Lying<'a> {
             }
             Command::Dump => words_of("dump --why --files"),
             Command::Format => {
-                let pages = self.draws.within(1, 64);
+                let most = self.draws.one_of(&[MOST_EARLY_PAGES, MOST_PAGES]);
+                let pages = self.draws.within(1, most.into());
                 words_of(&format!("format --files --pages {pages} --log-blocks 1024"))
             }
         };

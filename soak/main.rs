@@ -22,6 +22,8 @@ mod report;
 #[allow(dead_code)]
 mod restoring;
 mod script;
+#[allow(dead_code)]
+mod shape;
 mod texts;
 mod times;
 

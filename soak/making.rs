@@ -1,7 +1,8 @@
 //! Scripts that a seed makes, and their texts.
 
 use crate::draws::Draws;
-use crate::script::{Line, MOST_USERS, Mode, Op, Shape, USER_END, USER_START};
+use crate::script::{Line, MOST_USERS, Mode, Op, USER_END, USER_START};
+use crate::shape::Shape;
 use std::fmt::Write;
 
 /// What a script is like: how long its strings are and how many of its operations are strings, how many operations a line

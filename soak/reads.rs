@@ -31,7 +31,7 @@ fn read_of(line: &str) -> Result<Read, String> {
     }
 }
 
-/// What a lie is about, by where it stands on a device of format 2.
+/// What a lie is about, by where it stands on a device of format 2 or 3.
 #[derive(Clone, Copy, PartialEq)]
 pub enum About {
     Head,

@@ -1,10 +1,11 @@
 //! What `restore` has to answer of an archive: the pages for an lsn, or the first refusal that holds.
 
-use crate::crc::{PAGE, SECTOR, field, fits_page, fits_sector};
+use crate::crc::{PAGE, SECTOR, field, fits_sector, is_place};
 use crate::decoding::{Record, Stop, group};
 use crate::lsn::{BLOCK, BLOCK_DATA, BLOCK_HEADER, FIRST, behind, block_of, sn_of};
 use crate::pages::{Page, Pages};
-use crate::script::{MOST_BYTES, Op, Shape, USER_END, USER_START};
+use crate::script::{MOST_BYTES, Op, USER_END, USER_START};
+use crate::shape::{Shape, has_page_size, shape_of};
 use std::borrow::Cow;
 use std::fmt;
 
@@ -15,9 +16,7 @@ pub const LIMIT: u64 = 1 << 60;
 pub const HEADER: usize = 3 * SECTOR;
 /// Data bytes of a block end here.
 const DATA_END: u64 = BLOCK_HEADER + BLOCK_DATA;
-const PAGES: std::ops::RangeInclusive<u64> = 1..=64;
-const LOG_BLOCKS: std::ops::RangeInclusive<u64> = 1_024..=1_048_576;
-const SLOTS: u64 = 8;
+const LOG_BLOCKS: std::ops::RangeInclusive<u32> = 1_024..=1_048_576;
 
 #[derive(Clone, Copy, Debug, PartialEq, Eq, PartialOrd, Ord)]
 pub enum Refusal {
@@ -95,22 +94,14 @@ pub fn is_data(lsn: u64) -> bool {
 /// The start and the shape of a head that passes.
 fn head_of(bytes: &[u8]) -> Option<(u64, Shape)> {
     let start = field(bytes, 8, 8);
-    let sizes: Vec<u64> = (0..5)
-        .map(|place| field(bytes, 48 + 4 * place, 4))
-        .collect();
+    let shape = shape_of(bytes);
     let passes = fits_sector(bytes)
         && field(bytes, 0, 4) == 1
-        && sizes[0] == PAGE as u64
-        && PAGES.contains(&sizes[1])
-        && LOG_BLOCKS.contains(&sizes[3])
-        && sizes[4] == SLOTS
+        && has_page_size(bytes)
+        && LOG_BLOCKS.contains(&shape.log_blocks)
+        && shape.has_format()
         && start % BLOCK == BLOCK_HEADER
         && (FIRST..LIMIT).contains(&start);
-    let shape = Shape {
-        pages: sizes[1] as u32,
-        space: sizes[2] as u32,
-        log_blocks: sizes[3] as u32,
-    };
     passes.then_some((start, shape))
 }
 
@@ -146,13 +137,11 @@ impl Extent {
         self.first_block() + BLOCK * self.blocks()
     }
 
-    fn page(&self, file: &[u8], number: u64) -> Result<Page, Refusal> {
+    fn page(&self, file: &[u8], number: u32) -> Result<Page, Refusal> {
         let at = HEADER + number as usize * PAGE;
         let page = part(file, at as u64, PAGE);
-        let is_blank = page.iter().all(|byte| *byte == 0);
-        let is_own = field(&page, 4, 4) == number && field(&page, 34, 4) == self.shape.space.into();
-        if !is_blank && !(fits_page(&page) && is_own) {
-            return Err(Refusal::Page(number));
+        if !is_place(&page, number, self.shape.space) {
+            return Err(Refusal::Page(number.into()));
         }
         Ok(Page {
             lsn: field(&page, 16, 8),
@@ -285,7 +274,7 @@ impl Reading {
 }
 
 fn read(extent: &Extent, file: &[u8]) -> Result<(Pages, Vec<Whole>), Refusal> {
-    let numbers = 0..u64::from(extent.shape.pages);
+    let numbers = 0..extent.shape.pages;
     let pages: Result<Vec<Page>, Refusal> =
         numbers.map(|number| extent.page(file, number)).collect();
     let pages = Pages(pages?);

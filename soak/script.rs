@@ -1,6 +1,7 @@
 //! Scripts: their lines, what a line logs, and what of a script doesn't fit a store.
 
-use crate::lsn::{BLOCK, BLOCK_HEADER, behind};
+use crate::lsn::{BLOCK_HEADER, behind};
+use crate::shape::Shape;
 use std::fmt;
 
 #[derive(Clone, Debug, PartialEq)]
@@ -118,27 +119,6 @@ pub fn group_length(line: &Line, space: u32) -> u64 {
     let records: u64 = line.ops.iter().map(|op| record_length(op, space)).sum();
     records + u64::from(line.ops.len() > 1)
 }
-
-/// The sizes of a store.
-#[derive(Clone, Copy, Debug, PartialEq)]
-pub struct Shape {
-    pub pages: u32,
-    pub space: u32,
-    pub log_blocks: u32,
-}
-
-impl Shape {
-    /// How many bytes of the log its blocks hold: two of them are for the tails.
-    pub fn ring(&self) -> u64 {
-        BLOCK * (u64::from(self.log_blocks) - 2)
-    }
-}
-
-pub const DEFAULT_SHAPE: Shape = Shape {
-    pages: 8,
-    space: 1,
-    log_blocks: 2_048,
-};
 
 pub const USER_START: u64 = 38;
 pub const USER_END: u64 = 4_088;

@@ -5,7 +5,8 @@ use crate::events::{DEVICES, Event, LOG, What, blocks_end, synced, writes_of};
 use crate::heads::Heads;
 use crate::lsn::start_after;
 use crate::report::Report;
-use crate::script::{Line, Shape};
+use crate::script::Line;
+use crate::shape::Shape;
 use std::ops::Range;
 
 /// A run of which a cut may leave the first groups.

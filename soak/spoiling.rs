@@ -1,7 +1,8 @@
 //! Texts of groups, and such that are none or don't fit their store.
 
 use crate::draws::Draws;
-use crate::script::{Line, MOST_BYTES, Mode, Op, Shape};
+use crate::script::{Line, MOST_BYTES, Mode, Op};
+use crate::shape::Shape;
 use crate::texts::group_text;
 
 /// Bytes that begin or end something.

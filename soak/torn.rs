@@ -12,6 +12,7 @@ mod history;
 #[allow(dead_code)]
 mod layout;
 mod moments;
+mod older;
 mod since;
 mod tally;
 mod tears;
@@ -32,6 +33,8 @@ mod report;
 #[allow(dead_code)]
 mod restoring;
 mod script;
+#[allow(dead_code)]
+mod shape;
 mod texts;
 
 use files::Files;

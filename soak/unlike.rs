@@ -2,23 +2,25 @@
 
 use crate::crc::SECTOR;
 use crate::draws::Draws;
-use crate::events::{Event, LOG, What};
+use crate::events::{DATA, Event, LOG, What};
 use crate::files::{Asking, Files, Kill, On};
-use crate::layout::{HEADS, Head, are_heads_alike, in_format_1};
+use crate::layout::{HEADS, Head, are_heads_alike};
+use crate::older::{Older, older};
 use crate::program::words_of;
 use crate::tears::draw_junk;
 
-/// At times leaves the two heads unlike: breaks one, makes a store of format 1, or kills a call that writes them.
+/// At times leaves the two heads unlike: breaks one, makes a store of an older format, or kills a call that writes them.
 pub fn prepare(draws: &mut Draws, files: &mut Files) -> Result<(), String> {
     let drawn = draws.below(6);
     let head = Head::of_log(&files.contents[LOG]);
-    let format = head.map_or(0, |head| head.format);
-    if drawn == 0 && format == 2 && are_heads_alike(&files.contents[LOG]) {
+    let has_two = head.is_some_and(|head| head.format != 1);
+    if drawn == 0 && has_two && are_heads_alike(&files.contents[LOG]) {
         return break_head(draws, files);
     }
-    if drawn == 1 && format == 2 {
-        let made = in_format_1(draws, &files.contents[LOG])?;
-        files.put(LOG, made)?;
+    if drawn == 1 && head.is_some_and(|head| head.may_be_older()) {
+        let Older { log, data, .. } = older(draws, &files.contents)?;
+        files.put(LOG, log)?;
+        files.put(DATA, data)?;
         if draws.once_in(2) {
             return kill(draws, files, "run --files");
         }

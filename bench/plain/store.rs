@@ -11,10 +11,10 @@ use crate::log::{BLOCK_DATA, BLOCK_HEADER, BLOCK_SIZE, RING_START, START_LSN, TA
 pub const RING_BLOCKS: usize = 524_286;
 pub const PAGES: usize = 64;
 pub const PAGE_SIZE: usize = 4096;
-pub const SLOTS: usize = 8;
+pub const SLOTS: usize = 128;
 pub const SPACE: u32 = 1;
 /// The format that the header names.
-pub const FORMAT: u32 = 2;
+pub const FORMAT: u32 = 3;
 
 /// Those of the longest log.
 const MOST_BLOCKS: usize = 1_048_574;
