@@ -11,7 +11,8 @@ use Rattle.model_archive.specs.{ArchiveHolds, archive_length, AreArchivedBlocks,
 use Rattle.model_archive.specs.declared.marks.ArchMarks.{ArchMarks}
 use Rattle.redo_archive.specs.declared.fault.BeginFault.{BeginFault}
 use Rattle.redo_archive.specs.declared.fault.BeginFault.TheVariants.{Small, Dev, NoMemory}
-use Rattle.redo_disk.specs.{error_of, HasCause}
+use Rattle.redo_archive.specs.Calls.{begin_requests}
+use Rattle.redo_disk.specs.{Call, error_of, HasCause, MakesCalls, Serve}
 use Rattle.redo_disk.specs.Seen.{Seen}
 use Rattle.redo_disk.specs.declared.error.DevError.{DevError}
 
@@ -85,9 +86,9 @@ IsBeginFault seen shape old new Dev =
 IsBeginFault seen shape old new NoMemory = pages_end shape ≤ (seen old).size
 
 -- An archive was begun: of this shape, from this start on, and with these pages its device archives a run of no group
--- yet.
-pub record IsBegun {A : Type 0} (seen : A → Seen) (shape : Shape) (start : ℕ) (pages : List Content) (dev : A)
-    (part : Part A) : Type 0 where
+-- yet. These calls were made of the device, and none of them answered an error.
+pub record IsBegun {A : Type 0} (seen : A → Seen) (gives : A → Call → A → Type 0) (shape : Shape) (start : ℕ)
+    (pages : List Content) (dev : A) (part : Part A) : Type 0 where
   pub shape_is : part.shape ≡ shape
   pub start_is : part.start ≡ start
   pub marks_are : part.marks ≡ begun_marks start
@@ -95,6 +96,7 @@ pub record IsBegun {A : Type 0} (seen : A → Seen) (shape : Shape) (start : ℕ
   pub holds : PartArchives seen pages [] part
   pub size : (seen part.dev).size ≡ (seen dev).size
   pub later : (seen dev).faults ≤ (seen part.dev).faults
+  pub calls : MakesCalls gives dev part.dev (Serve (begin_requests shape start pages) None)
 
 -- None was begun, for this cause. Nothing is said of what stands on a device that is long enough.
 pub record IsNotBegun {A : Type 0} (seen : A → Seen) (shape : Shape) (dev : A) (fault : BeginFault)

@@ -1,11 +1,9 @@
 // Beginning an archive.
-ghost use Rattle.std.specs.Prelude.{IfErr, IfOk, None};
+ghost use Rattle.std.specs.Prelude.{IfErr, IfOk};
 ghost use Rattle.model_archive.specs.{IsRunStart};
 ghost use Rattle.model_base.specs.{IsWithinLimits};
 ghost use Rattle.redo_apply.specs.{ArePagesOf};
-ghost use Rattle.redo_archive.specs.Calls.{begin_requests};
 ghost use Rattle.redo_archive.specs.Part.{IsBegun, IsNotBegun};
-ghost use Rattle.redo_disk.specs.{MakesCalls, Serve};
 
 use crate::places::pages_end;
 use crate::puts::put_archive;
@@ -34,9 +32,7 @@ impl<A: Sectors> ArchPart<A> {
         requires limits { IsWithinLimits shape.now }
         requires run_start { IsRunStart start }
         requires its_pages { ArePagesOf shape.now pages.now }
-        ensures begun { IfOk result (IsBegun A.seen shape.now start pages.now dev) }
-        ensures calls { IfOk result (λ part. MakesCalls A.gives dev part.dev
-            (Serve (begin_requests shape.now start pages.now) None)) }
+        ensures begun { IfOk result (IsBegun A.seen A.gives shape.now start pages.now dev) }
         ensures fault { IfErr result (λ error. IsNotBegun A.seen shape.now dev error.0 error.1) }
     {
         let asked = pages_end(shape);

@@ -22,7 +22,7 @@ use redo_disk::Sectors;
 /// An archive that was just begun, on a device with room up to the block of the limit, stands beside a new archiver.
 pub fn archive_begins<A: Sectors>()
     ensures { (shape : Shape) (s limit : ℕ) (pages : List Content) (dev : A)
-        (part : Part A) → IsBegun A.seen shape s pages dev part → IsAtDataStart s → s ≤ limit → limit < LSN_LIMIT
+        (part : Part A) → IsBegun A.seen A.gives shape s pages dev part → IsAtDataStart s → s ≤ limit → limit < LSN_LIMIT
         → pages_end shape + (block_of limit + BLOCK_SIZE - block_of s) ≤ (A.seen dev).size
         → HasArchived A.seen limit s pages [] (new_reader 0 s) part }
 {}

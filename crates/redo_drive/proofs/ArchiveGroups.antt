@@ -27,8 +27,10 @@ use Rattle.model_running.specs.ReadHalf.{HasRunBlock, RunBlockAt}
 use Rattle.redo_archive.specs.Part.{Part, PartArchives}
 use Rattle.redo_archiver.proofs.Longer.{part-longer}
 use Rattle.redo_archiver.specs.{IsFullBlock, KeepsPace}
+use Rattle.redo_disk.specs.{Call}
 use Rattle.redo_disk.specs.Seen.{Seen}
 use Rattle.redo_drive.proofs.ArchiveTurns.{flushed_in, one_reader, stands, step_appends, who_appends}
+use Rattle.redo_drive.proofs.CallsOn.{calls_then}
 use Rattle.redo_drive.proofs.TurnsOf.{runs_then, told_earlier}
 use Rattle.redo_drive.specs.Archiving.{Appends, HasCome, IsSameArchive}
 use Rattle.redo_drive.specs.Lists.{lists_of}
@@ -109,10 +111,11 @@ module _ {L D A : Type 0} {archive : Bool} (log_seen : L → Seen) (data_seen : 
   run_now wholes are = run_of_log log_now run.setup.base then.running.shared.sn wholes
       then.running.both.logged.global.tiled.tiles are
 
-  module _ (before part later : Part A) (C : HasCome log_seen data_seen arch_seen run old actors R before part)
-      (served : ((r : ReaderState) × (t.who ≡ model.Reader r) × Appends arch_seen r part answer later)
+  module _ {arch_gives : A → Call → A → Type 0} (before part later : Part A)
+      (C : HasCome log_seen data_seen arch_seen arch_gives run old actors R before part)
+      (served : ((r : ReaderState) × (t.who ≡ model.Reader r) × Appends arch_seen arch_gives r part answer later)
       ⊎ (IsNoAppend (next t.who) × (later ≡ part))) where
-    still_same : IsSameArchive arch_seen before later
+    still_same : IsSameArchive arch_seen arch_gives before later
     still_same = ⊎_elim
         (λ z. let a = z.2.appended in let s = C.same in record {
           shape = a.shape ∙ s.shape;
@@ -121,8 +124,9 @@ module _ {L D A : Type 0} {archive : Bool} (log_seen : L → Seen) (data_seen : 
           later = (let x = a.later in let y = s.later in omega arith);
           risen = λ is. risen_since (arch_seen before.dev).faults (arch_seen part.dev).faults (arch_seen later.dev).faults
               s.later a.later (a.risen is);
+          calls = calls_then arch_gives before.dev part.dev later.dev before.failed part.failed later.failed s.calls z.2.calls;
         })
-        (λ z. subst (IsSameArchive arch_seen before) (sym z.1) C.same) served
+        (λ z. subst (IsSameArchive arch_seen arch_gives before) (sym z.1) C.same) served
 
     module _ (told : E.Tells new.log) (pages : List Content) (begun : PartArchives arch_seen pages [] before)
         (wholes : List Whole) (are : AreWholesOf log_now wholes) where
@@ -141,7 +145,7 @@ module _ {L D A : Type 0} {archive : Bool} (log_seen : L → Seen) (data_seen : 
           (C.archives told_before pages begun f.early f.of_log))
 
       -- an append
-      appended_on : (r : ReaderState) → t.who ≡ model.Reader r → Appends arch_seen r part answer later
+      appended_on : (r : ReaderState) → t.who ≡ model.Reader r → Appends arch_seen arch_gives r part answer later
           → PartArchives arch_seen pages wholes later
       appended_on r is appends =
           let at : get_elem? actors seat ≡ some (model.Reader r) = t.who_is ∙ ap some is in
@@ -172,7 +176,7 @@ module _ {L D A : Type 0} {archive : Bool} (log_seen : L → Seen) (data_seen : 
           (λ z. subst (λ (p : Part A). PartArchives arch_seen pages wholes p) (sym z.1) grown_on) served
 
     -- THE ARCHIVE GOES ON with the run.
-    pub comes_on : HasCome log_seen data_seen arch_seen run new after then before later
+    pub comes_on : HasCome log_seen data_seen arch_seen arch_gives run new after then before later
     comes_on = record {
       beside = stands log_seen data_seen run old new actors after seat answer step log_laws data_laws same R t arch_seen
           part later C.beside served;

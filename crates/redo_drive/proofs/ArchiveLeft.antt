@@ -67,12 +67,13 @@ module _ {L D A : Type 0} {archive : Bool} (log_seen : L → Seen) (data_seen : 
       (some-injective (model.Reader S.archiver) (model.Reader r) (sym S.at ∙ ap (get_elem? actors) (sym here) ∙ lost.at)) in
       sym is ∙ ap (λ (x : ReaderState). x.lost) (sym mine) ∙ S.pace.lost
 
-module _ {L D A R : Type 0} {archive : Bool} (log_seen : L → Seen) (log_gives : L → Call → L → Type 0) (data_seen : D → Seen)
-    (data_gives : D → Call → D → Type 0) (seen : A → Seen) (stands : R → List Given → Type 0) (opened : Opened L D)
-    (script : List ScriptLine) (log_only : Bool) (followers : ℕ) (starts actors : List (Actor R)) (driven : Driven L D)
+module _ {L D A R : Type 0} {archive : Bool} {gives : A → Call → A → Type 0} (log_seen : L → Seen)
+    (log_gives : L → Call → L → Type 0) (data_seen : D → Seen) (data_gives : D → Call → D → Type 0) (seen : A → Seen)
+    (stands : R → List Given → Type 0) (opened : Opened L D) (script : List ScriptLine) (log_only : Bool)
+    (followers : ℕ) (starts actors : List (Actor R)) (driven : Driven L D)
     (by : LeavesWith log_seen log_gives data_seen data_gives stands opened script log_only archive followers starts actors
     driven.closed) (before after : Part A)
-    (C : HasCome log_seen data_seen seen by.run by.last (views_of actors) by.from.runs before after)
+    (C : HasCome log_seen data_seen seen gives by.run by.last (views_of actors) by.from.runs before after)
     (failed : after.failed ≡ driven.closed.lost) where
   abbrev run : RunOf L D
   run = by.run
@@ -189,7 +190,7 @@ module _ {L D A R : Type 0} {archive : Bool} (log_seen : L → Seen) (log_gives 
     }
 
   -- SO THE RUN LEAVES IT.
-  pub has_archived : HasArchived log_seen data_seen seen opened script driven.closed (views_of actors) before after
+  pub has_archived : HasArchived log_seen data_seen seen gives opened script driven.closed (views_of actors) before after
   has_archived = record {
     same = C.same;
     failed = failed;

@@ -38,6 +38,7 @@ use Rattle.redo_archive.specs.Part.{Part}
 use Rattle.redo_archiver.proofs.Turning.{pace-turns}
 use Rattle.redo_archiver.specs.Archived.{appends_at, heard_at, RoundAt}
 use Rattle.redo_archiver.specs.{AppendsNothing, HearsFlushed, KeepsPace, marks_after}
+use Rattle.redo_disk.specs.{Call}
 use Rattle.redo_disk.specs.Seen.{Seen}
 use Rattle.redo_disk.specs.declared.error.DevError.{DevError}
 use Rattle.model_archive.specs.declared.marks.ArchMarks.{ArchMarks}
@@ -315,11 +316,12 @@ module _ {L D : Type 0} {archive : Bool} (log_seen : L → Seen) (data_seen : D 
         let lines = lines_same in omega arith
 
     -- THE ARCHIVE STAYS BESIDE, at a turn that appends nothing, and at an append.
-    pub stands : (part later : Part A) → StandsBeside seen run.setup old.words.words actors part
-        → ((r : ReaderState) × (t.who ≡ model.Reader r) × Appends seen r part answer later)
+    pub stands : {gives : A → Call → A → Type 0} (part later : Part A)
+        → StandsBeside seen run.setup old.words.words actors part
+        → ((r : ReaderState) × (t.who ≡ model.Reader r) × Appends seen gives r part answer later)
         ⊎ (IsNoAppend (next t.who) × (later ≡ part))
         → StandsBeside seen run.setup new.words.words after later
-    stands part later S served = elim (ℕ_discrete S.seat seat) [
+    stands {gives} part later S served = elim (ℕ_discrete S.seat seat) [
       | yes here ↦ ⊎_elim (λ z. appended here z.0 z.1 z.2)
           (λ z. subst (StandsBeside seen run.setup new.words.words after) (sym z.1) (turned here z.0)) served
       | no other ↦ ⊎_elim (λ z. absurd (none_else other z.0 z.1 z.2))
@@ -349,7 +351,7 @@ module _ {L D : Type 0} {archive : Bool} (log_seen : L → Seen) (data_seen : D 
         its : S.seat ≡ seat → t.who ≡ model.Reader S.archiver
         its here = some-injective t.who (model.Reader S.archiver) (sym t.who_is ∙ ap (get_elem? actors) (sym here) ∙ S.at)
 
-        appended : S.seat ≡ seat → (r : ReaderState) → t.who ≡ model.Reader r → Appends seen r part answer later
+        appended : S.seat ≡ seat → (r : ReaderState) → t.who ≡ model.Reader r → Appends seen gives r part answer later
             → StandsBeside seen run.setup new.words.words after later
         appended here r is appends =
             let same : ◌≡◌ {A = ReaderState} S.archiver r = one_reader S.archiver r (sym (its here) ∙ is) in
@@ -387,7 +389,7 @@ module _ {L D : Type 0} {archive : Bool} (log_seen : L → Seen) (data_seen : D 
             (ap (λ (l : List model.Actor). get_elem? l S.seat) t.actors ∙ set_else actors seat S.seat who other ∙ S.at)
             S.pace S.asked refl
 
-        none_else : S.seat ≢ seat → (r : ReaderState) → t.who ≡ model.Reader r → Appends seen r part answer later → ⊥
+        none_else : S.seat ≢ seat → (r : ReaderState) → t.who ≡ model.Reader r → Appends seen gives r part answer later → ⊥
         none_else other r is appends =
             let at : get_elem? actors seat ≡ some (model.Reader r) = t.who_is ∙ ap some is in
             let kind = who_appends run.setup r (R.running.both.in_run seat (model.Reader r) at) appends.mark appends.asks in

@@ -46,9 +46,9 @@ pub record ArchivesRun {L D A : Type 0} (log_seen : L → Seen) (arch_seen : A �
 -- that it was asked for last, are at most FLUSHED, up to where it may be finished. And where both devices told before the run,
 -- of a store that was ready, and the log device tells after it, it archives the run, if it was begun with the opened pages.
 pub record HasArchived {L D A : Type 0} (log_seen : L → Seen) (data_seen : D → Seen) (arch_seen : A → Seen)
-    (opened : Opened L D) (script : List ScriptLine) (closed : Closed L D) (actors : List model.Actor)
-    (before after : Part A) : Type 0 where
-  pub same : IsSameArchive arch_seen before after
+    (arch_gives : A → Call → A → Type 0) (opened : Opened L D) (script : List ScriptLine) (closed : Closed L D)
+    (actors : List model.Actor) (before after : Part A) : Type 0 where
+  pub same : IsSameArchive arch_seen arch_gives before after
   pub failed : after.failed ≡ closed.lost
   pub code : closed.code ≡ archive_device_code → after.failed ≡ Some Failed
   pub reached : (seat : ℕ) (r : ReaderState) → get_elem? actors seat ≡ some (model.Reader r) → archives r ≡ true
@@ -61,12 +61,12 @@ pub record HasArchived {L D A : Type 0} (log_seen : L → Seen) (data_seen : D �
       ArchivesRun log_seen arch_seen opened script closed after))
 
 -- the same where there is an archive; and where there is none, there is none then, and nothing failed of it
-abbrev pub HaveArchived : {L D A : Type 0} → (L → Seen) → (D → Seen) → (A → Seen) → Opened L D → List ScriptLine → Closed L D
-    → List model.Actor → Option (Part A) → Option (Part A) → Type 0
-HaveArchived log_seen data_seen arch_seen opened script closed actors None None = closed.lost ≡ None
-HaveArchived log_seen data_seen arch_seen opened script closed actors (Some before) (Some after) =
-    HasArchived log_seen data_seen arch_seen opened script closed actors before after
-HaveArchived log_seen data_seen arch_seen opened script closed actors _ _ = ⊥
+abbrev pub HaveArchived : {L D A : Type 0} → (L → Seen) → (D → Seen) → (A → Seen) → (A → Call → A → Type 0)
+    → Opened L D → List ScriptLine → Closed L D → List model.Actor → Option (Part A) → Option (Part A) → Type 0
+HaveArchived log_seen data_seen arch_seen arch_gives opened script closed actors None None = closed.lost ≡ None
+HaveArchived log_seen data_seen arch_seen arch_gives opened script closed actors (Some before) (Some after) =
+    HasArchived log_seen data_seen arch_seen arch_gives opened script closed actors before after
+HaveArchived log_seen data_seen arch_seen arch_gives opened script closed actors _ _ = ⊥
 
 -- A log part from which blocks were read: nothing else was asked of its device, which tells what it told or nothing any more.
 pub record IsReadBack {L : Type 0} (seen : L → Seen) (gives : L → Call → L → Type 0) (old new : log.Part L) : Type 0 where

@@ -17,8 +17,10 @@ use Rattle.model_page.specs.declared.content.Content.{Content}
 use Rattle.model_running.specs.Histories.{AreWholesOf}
 use Rattle.redo_archive.specs.Part.{Part, PartArchives}
 use Rattle.redo_archiver.specs.{IsAppended, IsFullBlock, KeepsPace}
+use Rattle.redo_disk.specs.{Call}
 use Rattle.redo_disk.specs.Seen.{Seen}
 use Rattle.redo_disk.specs.declared.error.DevError.TheVariants.{Failed}
+use Rattle.redo_drive.specs.Calls.{CallsOn}
 use Rattle.redo_drive.specs.Playing.{RunOf, run_log_side}
 use Rattle.redo_drive.specs.Running.{RunsWith}
 use Rattle.redo_drive.specs.declared.parts.Parts.{Parts}
@@ -55,32 +57,36 @@ IsBeside seen c words actors (Some part) = StandsBeside seen c words actors part
 
 -- AN APPEND of the block that the archiver has read, with this answer. The archive is again as far as the archiver; and it
 -- archives what it did of a run, if the block was the run's for its groups at an earlier time.
-pub record Appends {A : Type 0} (seen : A → Seen) (archiver : ReaderState) (before : Part A) (answer : Answer) (after : Part A) : Type 0 where
+pub record Appends {A : Type 0} (seen : A → Seen) (gives : A → Call → A → Type 0) (archiver : ReaderState) (before : Part A)
+    (answer : Answer) (after : Part A) : Type 0 where
   pub mark : ℕ
   pub asks : next (model.Reader archiver) ≡ op.Append mark
   pub appended : IsAppended seen before mark answer after
+  pub calls : CallsOn gives before.dev before.failed after.dev after.failed
   pub pace : (limit flushed : ℕ) (filling : Filling) → KeepsPace seen limit flushed archiver before
       → KeepsPace seen limit flushed (after_of reader_program (reader_filled archiver filling archiver.step) answer) after
   pub archives : (limit flushed : ℕ) (pages : List Content) (early late : List Whole) → KeepsPace seen limit flushed archiver before
       → IsRunOf before.start (early ++ late) → IsFullBlock before.start early archiver.place archiver.block
       → PartArchives seen pages (early ++ late) before → PartArchives seen pages (early ++ late) after
 
--- the same archive on the same device, later: the device has failed if a call of it has
-pub record IsSameArchive {A : Type 0} (seen : A → Seen) (before after : Part A) : Type 0 where
+-- the same archive on the same device, later: the device has failed if a call of it has, and what the part tells is what
+-- its calls answered
+pub record IsSameArchive {A : Type 0} (seen : A → Seen) (gives : A → Call → A → Type 0) (before after : Part A) : Type 0 where
   pub shape : after.shape ≡ before.shape
   pub start : after.start ≡ before.start
   pub size : (seen after.dev).size ≡ (seen before.dev).size
   pub later : (seen before.dev).faults ≤ (seen after.dev).faults
   pub risen : after.failed ≡ Some Failed → HasRisen (seen before.dev).faults (seen after.dev).faults
+  pub calls : CallsOn gives before.dev before.failed after.dev after.failed
 
 module _ {L D A : Type 0} {archive : Bool} (log_seen : L → Seen) (data_seen : D → Seen) (arch_seen : A → Seen)
-    (run : RunOf L D) (parts : Parts L D) (actors : List model.Actor)
+    (arch_gives : A → Call → A → Type 0) (run : RunOf L D) (parts : Parts L D) (actors : List model.Actor)
     (runs : RunsWith log_seen data_seen run archive parts actors) where
   -- The run that began with the first of these archives has come to the other. It stands beside the actors; and where the log
   -- device tells, it archives the groups of the log, if it was begun as an archive.
   pub record HasCome (before after : Part A) : Type 0 where
     pub beside : StandsBeside arch_seen run.setup parts.words.words actors after
-    pub same : IsSameArchive arch_seen before after
+    pub same : IsSameArchive arch_seen arch_gives before after
     pub archives : (run_log_side log_seen data_seen run).Tells parts.log
         → (pages : List Content) → PartArchives arch_seen pages [] before
         → (wholes : List Whole) → AreWholesOf runs.running.log_ghost.log wholes

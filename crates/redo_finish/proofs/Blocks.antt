@@ -52,7 +52,8 @@ either_way : (result : Result (Unit {0}) DevError) (P : Type 0) → OnOk result 
 either_way (Ok done) P ok err = ok
 either_way (Err error) P ok err = err
 
-module _ {L A : Type 0} (log_seen : L → Seen) (gives : L → Call → L → Type 0) (seen : A → Seen) (flushed : ℕ) where
+module _ {L A : Type 0} (log_seen : L → Seen) (gives : L → Call → L → Type 0) (seen : A → Seen)
+    (arch_gives : A → Call → A → Type 0) (flushed : ℕ) where
   not_read : (p : log.Part L) → IsReadBack log_seen gives p p
   not_read p = record {
     shape = refl;
@@ -75,18 +76,19 @@ module _ {L A : Type 0} (log_seen : L → Seen) (gives : L → Call → L → Ty
     holds = read.holds;
   }
 
-  same_archive : (part : Part A) → part.failed ≡ None → IsSameArchive seen part part
+  same_archive : (part : Part A) → part.failed ≡ None → IsSameArchive seen arch_gives part part
   same_archive part live = record {
     shape = refl;
     start = refl;
     size = refl;
     later = omega arith;
     risen = λ failed. let z : None ≡ Some Failed = sym live ∙ failed in absurd (cc);
+    calls = not_called arch_gives part.dev part.failed;
   }
 
   -- THE LOG WAS READ ALONE.
   pub only_read : (old new : log.Part L) (part : Part A) → IsToFinish seen flushed part → IsReadBack log_seen gives old new
-      → Finishes log_seen gives seen flushed old new part part
+      → Finishes log_seen gives seen arch_gives flushed old new part part
   only_read old new part lacks read = record {
     to_finish = lacks;
     start = refl;
@@ -100,7 +102,7 @@ module _ {L A : Type 0} (log_seen : L → Seen) (gives : L → Call → L → Ty
   }
 
   pub nothing : (p : log.Part L) (part : Part A) → IsToFinish seen flushed part
-      → Finishes log_seen gives seen flushed p p part part
+      → Finishes log_seen gives seen arch_gives flushed p p part part
   nothing p part lacks = only_read p p part lacks (not_read p)
 
   -- A BLOCK WAS APPENDED.
@@ -110,13 +112,14 @@ module _ {L A : Type 0} (log_seen : L → Seen) (gives : L → Call → L → Ty
       → IsReadBack log_seen gives old new → LogRead log_seen (block_of part.marks.mark) bytes code old new
       → new.failed ≡ None
       → IsAppended seen part (finishing_mark flushed part) answer later
+      → (asks : List Request) → MakesCalls arch_gives part.dev later.dev (Serve asks later.failed)
       → IsToFinish seen flushed later
       → ((m : ℕ) (pages : List Content) (wholes : List Whole) → IsRunOf part.start wholes
       → IsBoundary part.start (spans_of wholes) m → flushed ≤ m
       → IsBoundaryBlock part.start wholes m (block_of part.marks.mark) bytes
       → PartArchives seen pages wholes part → PartArchives seen pages wholes later)
-      → Finishes log_seen gives seen flushed old new part later
-  appended_one old new part later code bytes answer lacks less live may read_so read good appended then archives =
+      → Finishes log_seen gives seen arch_gives flushed old new part later
+  appended_one old new part later code bytes answer lacks less live may read_so read good appended asks calls then archives =
       let low = may.later in
       let high = min-le_right (part.marks.mark + BLOCK_SIZE) flushed in
       record {
@@ -131,6 +134,7 @@ module _ {L A : Type 0} (log_seen : L → Seen) (gives : L → Call → L → Ty
           size = appended.size;
           later = appended.later;
           risen = appended.risen;
+          calls = record { live = λ live. serves_end calls; over = λ some. absurd (some none) };
         };
         over = λ some. absurd (some live);
         archives = λ pages wholes holds had. if_told (log_seen new.dev).tells (λ disk. PartArchives seen pages wholes later)
@@ -168,8 +172,9 @@ module _ {L A : Type 0} (log_seen : L → Seen) (gives : L → Call → L → Ty
 
   -- ONE AFTER THE OTHER.
   pub both : (old middle new : log.Part L) (part next later : Part A)
-      → Finishes log_seen gives seen flushed old middle part next → Finishes log_seen gives seen flushed middle new next later
-      → Finishes log_seen gives seen flushed old new part later
+      → Finishes log_seen gives seen arch_gives flushed old middle part next
+      → Finishes log_seen gives seen arch_gives flushed middle new next later
+      → Finishes log_seen gives seen arch_gives flushed old new part later
   both old middle new part next later one two = record {
     to_finish = two.to_finish;
     start = two.start ∙ one.start;
@@ -190,7 +195,8 @@ module _ {L A : Type 0} (log_seen : L → Seen) (gives : L → Call → L → Ty
         (λ disk told. by pages wholes H had disk told);
   }
     where
-      same_then : part.failed ≡ None → (failed : Option DevError) → next.failed ≡ failed → IsSameArchive seen part later
+      same_then : part.failed ≡ None → (failed : Option DevError) → next.failed ≡ failed
+          → IsSameArchive seen arch_gives part later
       same_then live None is =
           let x = one.same live in
           let y = two.same is in
@@ -201,10 +207,11 @@ module _ {L A : Type 0} (log_seen : L → Seen) (gives : L → Call → L → Ty
             later = (let a = x.later in let b = y.later in omega arith);
             risen = λ failed. risen_since (seen part.dev).faults (seen next.dev).faults (seen later.dev).faults x.later y.later
                 (y.risen failed);
+            calls = calls_then arch_gives part.dev next.dev later.dev part.failed next.failed later.failed x.calls y.calls;
           }
       same_then live (Some error) is =
           let still = two.over (λ none. let z : Some error ≡ None = sym is ∙ none in absurd (cc)) in
-          subst (IsSameArchive seen part) (sym still) (one.same live)
+          subst (IsSameArchive seen arch_gives part) (sym still) (one.same live)
 
       by : (pages : List Content) (wholes : List Whole)
           → HoldsFrom log_seen part.start wholes (block_of part.marks.mark) flushed old

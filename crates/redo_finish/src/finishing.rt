@@ -22,7 +22,7 @@ fn append_next<L: Sectors, A: Sectors>(
     requires finish { IsToFinish A.seen flushed part.old }
     requires started { START_LSN ≤ part.old.start }
     requires lacks { part.old.marks.mark < flushed }
-    ensures finishes { Finishes L.seen L.gives A.seen flushed log.old log.new part.old part.new }
+    ensures finishes { Finishes L.seen L.gives A.seen A.gives flushed log.old log.new part.old part.new }
     ensures on { result ≡ true → part.old.marks.mark < part.new.marks.mark }
     ensures ends { result ≡ false → log.new.failed ≡ None → part.new.failed ≡ None → ⊥ }
 {
@@ -51,7 +51,7 @@ pub fn finish_archive<L: Sectors, A: Sectors>(
     requires finish { IsToFinish A.seen flushed part.old }
     requires started { START_LSN ≤ part.old.start }
     ensures done { log.new.failed ≡ None → part.new.failed ≡ None → part.new.marks.mark ≡ flushed }
-    ensures finishes { Finishes L.seen L.gives A.seen flushed log.old log.new part.old part.new }
+    ensures finishes { Finishes L.seen L.gives A.seen A.gives flushed log.old log.new part.old part.new }
 {
     while part.mark() < flushed {
         if !append_next(log, part, flushed) {

@@ -149,10 +149,12 @@ all-left None = refl
 all-left (Some bytes) = (0, omega arith, omega arith, refl)
 
 -- THE CALL OF OTHER WORDS.
-pub nothing-ends : (call : LabCall) (sink sink_now : SinkSeen) (status : ℕ) (f : Fault) → ((command_of call.words ≡ None) × (f ≡ fault.Words)) ⊎ (f ≡ fault.Memory)
+pub nothing-ends : (call : LabCall) (archive_well : Type 0) (sink sink_now : SinkSeen) (status : ℕ) (f : Fault)
+    → ((command_of call.words ≡ None) × (f ≡ fault.Words)) ⊎ (f ≡ fault.Memory)
     → call.source_now ≡ call.source → BothDevices IsLeftAlone call → call.archive.now ≡ call.archive.entry → Laws → IsFaultPrinted [] f status sink sink_now
-    → TakesAtMost (MAX_SCRIPT + PIECE) call.source.left call.source_now.left → IsCallOf call sink sink_now status
-nothing-ends call sink sink_now status f why unread alone untouched laws printed little = record {
+    → TakesAtMost (MAX_SCRIPT + PIECE) call.source.left call.source_now.left → IsCallOf call archive_well sink sink_now
+    status
+nothing-ends call archive_well sink sink_now status f why unread alone untouched laws printed little = record {
   way = inl (record {
     fault = f;
     fault_is = why;

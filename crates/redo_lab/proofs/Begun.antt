@@ -12,7 +12,11 @@ use Rattle.model_script.specs.declared.asked.Command.TheVariants.{Run}
 use Rattle.model_script.specs.declared.asked.Drive.{Drive}
 use Rattle.model_script.specs.declared.script.ScriptLine.{ScriptLine}
 use Rattle.redo_archive.specs.Part.{Part}
+use Rattle.redo_disk.proofs.Made.{none_ends}
+use Rattle.redo_disk.specs.{Call}
 use Rattle.redo_disk.specs.Seen.{Seen}
+use Rattle.redo_disk.specs.declared.error.DevError.{DevError}
+use Rattle.redo_disk.specs.declared.error.DevError.TheVariants.{Failed, NoMemory}
 use Rattle.redo_drive.specs.Startable.{IsNewArchive, MayBegin}
 use Rattle.redo_drive.specs.declared.drive.RunEnd.{RunEnd}
 use Rattle.redo_drive.specs.declared.drive.RunEnd.TheVariants.{Done, Spent}
@@ -21,11 +25,13 @@ use Rattle.redo_store.specs.declared.opened.Opened.{Opened}
 use Rattle.redo_lab.proofs.Opening.{unplayed-archive, unplayed-memory}
 use Rattle.redo_lab.proofs.Unarchived.{no-archive, spares-untouched}
 use Rattle.redo_lab.specs.Archiving.{AreBegun, AreUnbegunBy, device_of}
-use Rattle.redo_lab.specs.Call.{IsUnfused, LabCall, Unfused, unfused}
+use Rattle.redo_lab.specs.Call.{IsUnfused, IsWellCalled, LabCall, Unfused, unfused}
 use Rattle.redo_lab.specs.Cause.{archive_size}
-use Rattle.redo_lab.specs.Ending.{EndsWith}
+use Rattle.redo_lab.specs.Ending.{EndsWith, WhereDone}
 use Rattle.redo_lab.specs.Laws.{Laws}
-use Rattle.redo_lab.specs.Runs.{CommandRuns, IsGivenBack, SparedBy, StandsReady, course_done, course_of}
+use Rattle.redo_lab.specs.Runs.{AreWellCalled, CommandRuns, IsGivenBack, IsUncut, SparedBy, StandsReady, course_done}
+use Rattle.redo_lab.specs.Runs.{course_of, ended_by}
+use Rattle.redo_lab.specs.declared.outcome.Outcome.{Outcome}
 use Rattle.redo_lab.specs.declared.outcome.Outcome.TheVariants as outcome
 use Rattle.redo_lab.specs.declared.playing.Course.{Course}
 use Rattle.redo_lab.specs.declared.playing.Course.TheVariants as course
@@ -53,26 +59,28 @@ archive-room seen shape start script None fits = tt
 archive-room seen shape start script (Some device) fits = omega arith
 
 module _ {L D A : Type 0} (seen : A → Seen) (given : Opened L D) where
-  pub begun-so : (device : Option A) (begun : Option (Part A)) → AreBegun seen given device begun → is_some begun ≡ is_some device
-  begun-so None None are = refl
-  begun-so (Some device) (Some begun) are = refl
-  begun-so None (Some begun) are = absurd are
-  begun-so (Some device) None are = absurd are
+  pub begun-so : (arch_gives : A → Call → A → Type 0) (device : Option A) (begun : Option (Part A))
+      → AreBegun seen arch_gives given device begun → is_some begun ≡ is_some device
+  begun-so arch_gives None None are = refl
+  begun-so arch_gives (Some device) (Some begun) are = refl
+  begun-so arch_gives None (Some begun) are = absurd are
+  begun-so arch_gives (Some device) None are = absurd are
 
   -- an archive that a drive may go on with
-  pub begun-new : (script : List ScriptLine) (device : Option A) (begun : Option (Part A))
-      → AreBegun seen given device begun → ArchiveFits given.shape given.start (option_map (λ device. (seen device).size) device) script
+  pub begun-new : (arch_gives : A → Call → A → Type 0) (script : List ScriptLine) (device : Option A)
+      (begun : Option (Part A)) → AreBegun seen arch_gives given device begun
+      → ArchiveFits given.shape given.start (option_map (λ device. (seen device).size) device) script
       → IfSome begun (IsNewArchive seen given script)
-  begun-new script None None are fits = tt
-  begun-new script (Some device) (Some begun) are fits = record {
+  begun-new arch_gives script None None are fits = tt
+  begun-new arch_gives script (Some device) (Some begun) are fits = record {
     live = are.live;
     shape = are.shape_is;
     start = are.start_is;
     begun = are.marks_are;
     room = (let size = are.size in omega (arith, size, fits));
   }
-  begun-new script None (Some begun) are fits = absurd are
-  begun-new script (Some device) None are fits = absurd are
+  begun-new arch_gives script None (Some begun) are fits = absurd are
+  begun-new arch_gives script (Some device) None are fits = absurd are
 
 -- WHAT BECOMES OF THE DEVICE
 
@@ -95,12 +103,13 @@ given-unbegun seen (Some device) f left why = ⊎_elim
     (λ memory. subst (λ (f : Fault). SparedBy (course.Ended f) (unfused seen device left)) (sym memory) tt)
     why
 
-pub given-memory : {L D A : Type 0} (seen : A → Seen) (given : Opened L D) (device : Option A) (begun : Option (Part A))
-    → AreBegun seen given device begun → IsGivenBack seen (SparedBy (course.Ended fault.Memory)) device (device_of begun)
-given-memory seen given None None are = tt
-given-memory seen given (Some device) (Some begun) are = tt
-given-memory seen given None (Some begun) are = absurd are
-given-memory seen given (Some device) None are = absurd are
+pub given-memory : {L D A : Type 0} (seen : A → Seen) (arch_gives : A → Call → A → Type 0) (given : Opened L D)
+    (device : Option A) (begun : Option (Part A)) → AreBegun seen arch_gives given device begun
+    → IsGivenBack seen (SparedBy (course.Ended fault.Memory)) device (device_of begun)
+given-memory seen arch_gives given None None are = tt
+given-memory seen arch_gives given (Some device) (Some begun) are = tt
+given-memory seen arch_gives given None (Some begun) are = absurd are
+given-memory seen arch_gives given (Some device) None are = absurd are
 
 -- of a run that was driven
 spared-done : (played : Played) (cause : Option Fault) (archive : Unfused) → SparedBy (course_done played cause) archive
@@ -117,6 +126,39 @@ given-run seen how played cause None None is = tt
 given-run seen how played cause (Some device) (Some now) is = spared-run how played cause (unfused seen device now)
 given-run seen how played cause None (Some now) is = absurd (cc)
 given-run seen how played cause (Some device) None is = absurd (cc)
+
+-- THE CALLS OF THE DEVICE
+
+-- no call of it
+pub same-well : {A : Type 0} (gives : A → Call → A → Type 0) (course : Course) (device : Option A)
+    → AreWellCalled gives course device device
+same-well gives course None = tt
+same-well gives course (Some device) = λ uncut. none_ends gives device
+
+-- a run that was cut is bound to none
+pub cut-well : {A : Type 0} (gives : A → Call → A → Type 0) (course : Course) → (IsUncut course → ⊥)
+    → (device now : Option A) → AreWellCalled gives course device now
+cut-well gives course cut None None = tt
+cut-well gives course cut None (Some now) = tt
+cut-well gives course cut (Some device) None = tt
+cut-well gives course cut (Some device) (Some now) = λ uncut. absurd (cut uncut)
+
+-- a run that wasn't cut met no error of the archive
+pub uncut-none : (how : RunEnd) (played : Played) (log store archive : Option DevError)
+    → IsUncut (course_of how played (ended_by log store archive)) → archive ≡ None
+uncut-none how played log store None uncut = refl
+uncut-none (Spent turns user) played log store (Some e) uncut = absurd uncut
+uncut-none Done played (Some Failed) store (Some e) uncut = absurd uncut
+uncut-none Done played None (Some Failed) (Some e) uncut = absurd uncut
+uncut-none Done played None None (Some Failed) uncut = absurd uncut
+uncut-none Done played None None (Some NoMemory) uncut = absurd uncut
+uncut-none Done played None (Some NoMemory) (Some Failed) uncut = absurd uncut
+uncut-none Done played None (Some NoMemory) (Some NoMemory) uncut = absurd uncut
+uncut-none Done played (Some NoMemory) (Some Failed) (Some e) uncut = absurd uncut
+uncut-none Done played (Some NoMemory) None (Some Failed) uncut = absurd uncut
+uncut-none Done played (Some NoMemory) None (Some NoMemory) uncut = absurd uncut
+uncut-none Done played (Some NoMemory) (Some NoMemory) (Some Failed) uncut = absurd uncut
+uncut-none Done played (Some NoMemory) (Some NoMemory) (Some NoMemory) uncut = absurd uncut
 
 -- as many are given back as are handed on
 given-as : {A : Type 0} (seen : A → Seen) (Is : Unfused → Type 0) (device now : Option A) → IsGivenBack seen Is device now
@@ -166,6 +208,29 @@ module _ {A : Type 0} (seen : A → Seen) (Is : Unfused → Type 0) (arch : A) w
   back-is archived (Some device) (Some left) now is handed back same =
       subst Is (sym (ap (λ (a : A). unfused seen a now) (same-handed archived device is) ∙ ap (λ (a : A). unfused seen device a) same)) back
   back-is archived (Some device) None now is handed back same = absurd back
+
+  -- where the command is done, no call of the device answered an error
+  well-text : (gives : A → Call → A → Type 0) (course : Course) (archived : Bool) (on left : Option A) (now : A)
+      → on ≡ On archived → IsGivenBack seen Is on left → IfSome left (λ device. now ≡ device)
+      → (archived ≡ false → now ≡ arch)
+      → (archived ≡ true → IsUncut course) → AreWellCalled gives course on left → IsWellCalled gives arch now
+  well-text gives course false on left now is back same alone uncut well =
+      subst (IsWellCalled gives arch) (sym (alone refl)) (none_ends gives arch)
+  well-text gives course true None left now is back same alone uncut well =
+      let none : None ≡ Some arch = is in absurd (cc)
+  well-text gives course true (Some device) None now is back same alone uncut well = absurd back
+  well-text gives course true (Some device) (Some left) now is back same alone uncut well =
+      subst (λ (d : A). IsWellCalled gives d now) (sym (same-handed true device is))
+      (subst (IsWellCalled gives device) (sym same) (well (uncut refl)))
+
+  pub well-back : (gives : A → Call → A → Type 0) (course : Course) (archived : Bool) (on left : Option A) (now : A)
+      (o : Outcome) → on ≡ On archived → IsGivenBack seen Is on left → IfSome left (λ device. now ≡ device)
+      → (archived ≡ false → now ≡ arch)
+      → (archived ≡ true → WhereDone o (IsUncut course)) → AreWellCalled gives course on left
+      → WhereDone o (IsWellCalled gives arch now)
+  well-back gives course archived on left now (outcome.Text text) = well-text gives course archived on left now
+  well-back gives course archived on left now (outcome.Report text cut) = λ is back same alone uncut well. tt
+  well-back gives course archived on left now (outcome.Fault cut) = λ is back same alone uncut well. tt
 
   pub back-kept : (archived : Bool) (kept : Option A) (now : A) → kept ≡ Kept-back archived → archived ≡ false
       → IfSome kept (λ device. now ≡ device) → now ≡ arch

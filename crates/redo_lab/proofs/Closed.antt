@@ -1,6 +1,7 @@
 -- A run that was begun, driven and closed, by whatever drive.
 use Rattle.std.proofs.Common.{ℕ, ◌≡◌, ◌≤◌, true, List, Option, None, Result, Ok, Err, IfSome, IfOk, IfErr, is_some, ◌∙◌, arith, Global, Vec}
 use Rattle.model_base.specs.declared.limits.TheConstants.{START_LSN}
+use Rattle.model_report.specs.declared.fault.Fault.TheVariants.{Memory}
 use Rattle.model_script.specs.declared.asked.Command.{Command}
 use Rattle.model_script.specs.declared.asked.Drive.{Drive}
 use Rattle.model_script.specs.declared.script.ScriptLine.{ScriptLine}
@@ -21,26 +22,32 @@ use Rattle.redo_lsn.specs.declared.memory.NoMemory.{NoMemory}
 use Rattle.redo_memdisk.specs.{CallsThrough, seen_through}
 use Rattle.redo_memdisk.specs.declared.fused.Fused.{Fused}
 use Rattle.redo_lab.proofs.Archives.{ArchiveReads}
-use Rattle.redo_lab.proofs.Begun.{given-memory, given-run}
+use Rattle.redo_lab.proofs.Begun.{cut-well, given-memory, given-run, uncut-none}
 use Rattle.redo_lab.proofs.ByDrive.{spends-turns}
 use Rattle.redo_lab.proofs.Driving.{driven-comes}
 use Rattle.redo_lab.proofs.Entered.{both-same, entries-then, owed-entries}
 use Rattle.redo_lab.proofs.Followers.{room-for}
-use Rattle.redo_lab.proofs.Kept.{finished-after, finished-owed, finished-reads, kept-run, still-some, still-started, to-finish}
+use Rattle.redo_lab.proofs.Kept.{finished-after, finished-owed, finished-reads, kept-run, still-some, still-started}
+use Rattle.redo_lab.proofs.Kept.{to-finish, well-run}
 use Rattle.redo_lab.proofs.Opening.{unplayed-memory}
 use Rattle.redo_lab.proofs.Owed.{IsOwed, as-owed}
+use Rattle.redo_lab.specs.Archiving.{failed_of}
 use Rattle.redo_lab.specs.Begun.{HasBegun, IsClosedBy, IsUnrun}
 use Rattle.redo_lab.specs.Call.{IsUnfused, LabCall, Unfused}
 use Rattle.redo_lab.specs.Handed.{AreOf, TellsOf, call_on}
 use Rattle.redo_lab.specs.Laws.{Laws}
-use Rattle.redo_lab.specs.Runs.{CommandRuns, IsGivenBack, IsRanBy, SparedBy, StandsReady}
+use Rattle.redo_lab.specs.Runs.{AreWellCalled, CommandRuns, IsGivenBack, IsRanBy, SparedBy, StandsReady}
+use Rattle.redo_lab.specs.Runs.{course_of, ended_by, played_of}
+use Rattle.redo_lab.specs.declared.playing.Course.TheVariants as course
 use Rattle.redo_lab.specs.declared.start.Begun.{Begun}
+use Rattle.redo_lab.specs.declared.playing.Played.{Played}
 use Rattle.redo_lab.specs.declared.playing.Ran.{Ran}
 use Rattle.redo_lab.specs.declared.playing.Stops.{Stops}
 
 module _ {L D A : Type 0} (log_seen : L → Seen) (log_gives : L → Call → L → Type 0) (data_seen : D → Seen) (data_gives : D → Call → D → Type 0)
-    (seen : A → Seen) (drive : Drive) (script : List ScriptLine) (handed : Option A) (begun : Begun L D A)
-    (has : HasBegun seen drive script handed begun) where
+    (seen : A → Seen) (arch_gives : A → Call → A → Type 0) (drive : Drive) (script : List ScriptLine)
+    (handed : Option A) (begun : Begun L D A)
+    (has : HasBegun seen arch_gives drive script handed begun) where
   abbrev Owed-so : Driven (Fused L) (Fused D) → Type 0
   Owed-so driven = IsOwed (seen_through log_seen) (CallsThrough log_seen log_gives) (seen_through data_seen) (CallsThrough data_seen data_gives)
       begun.opened script driven
@@ -53,20 +60,24 @@ module _ {L D A : Type 0} (log_seen : L → Seen) (log_gives : L → Call → L 
   module _ (first : Driven (Fused L) (Fused D)) (actors : List (Actor Kept)) (after : Option (Part A))
       (owes : Owes (seen_through log_seen) (CallsThrough log_seen log_gives) (seen_through data_seen) (CallsThrough data_seen data_gives)
       begun.opened script first)
-      (archived : HaveArchived (seen_through log_seen) (seen_through data_seen) seen begun.opened script first.closed (views_of actors)
-      begun.archive after) where
+      (archived : HaveArchived (seen_through log_seen) (seen_through data_seen) seen arch_gives begun.opened script
+      first.closed (views_of actors) begun.archive after) where
     -- its archive may have the rest appended
     pub may-finish : IfSome after (IsToFinish seen first.closed.marks.flushed)
-    may-finish = to-finish (seen_through log_seen) (seen_through data_seen) seen begun.opened script first (views_of actors) begun.archive after archived
+    may-finish = to-finish (seen_through log_seen) (seen_through data_seen) seen arch_gives begun.opened script first
+        (views_of actors) begun.archive after archived
 
     pub was-started : IfSome after (λ part. START_LSN ≤ part.start)
-    was-started = still-started (seen_through log_seen) (seen_through data_seen) seen begun.opened script first (views_of actors) handed begun.archive after
+    was-started = still-started (seen_through log_seen) (seen_through data_seen) seen arch_gives begun.opened script
+        first (views_of actors) handed begun.archive after
         (let low = has.may.runnable.first in omega arith) has.archive archived
 
     module _ (reads : ArchiveReads) (ran : Ran L D) (left : Option A)
-        (closed : IsClosedBy log_seen log_gives seen begun.opened.start begun.follows first actors after ran left) where
+        (closed : IsClosedBy log_seen log_gives seen arch_gives begun.opened.start begun.follows first actors after ran
+        left) where
       owed : Owed-so closed.after
-      owed = finished-owed log_seen log_gives data_seen data_gives begun.opened script seen reads drive.log_only has.may first
+      owed = finished-owed log_seen log_gives data_seen data_gives begun.opened script seen arch_gives reads
+          drive.log_only has.may first
           (as-owed (seen_through log_seen) (CallsThrough log_seen log_gives) (seen_through data_seen) (CallsThrough data_seen data_gives)
           begun.opened script first owes)
           after closed.archive_now closed.after closed.finished
@@ -76,8 +87,24 @@ module _ {L D A : Type 0} (log_seen : L → Seen) (log_gives : L → Call → L 
 
       pub run-given : IsGivenBack seen (SparedBy ran.course) handed left
       run-given = rw (closed.course, closed.device_is) (given-run seen _ _ _ handed _
-          (still-some (seen_through log_seen) (CallsThrough log_seen log_gives) (seen_through data_seen) seen begun.opened script
+          (still-some (seen_through log_seen) (CallsThrough log_seen log_gives) (seen_through data_seen) seen arch_gives
+          begun.opened script
           first closed.after (views_of actors) handed begun.archive after closed.archive_now has.archive archived closed.finished))
+
+      abbrev its-played : Played
+      its-played = played_of begun.opened.start closed.after.closed closed.follows
+
+      pub run-well : AreWellCalled arch_gives ran.course handed left
+      run-well = rw (closed.course, closed.device_is) (well-run log_seen log_gives data_seen data_gives begun.opened
+          script seen arch_gives reads drive.log_only has.may first
+          (as-owed (seen_through log_seen) (CallsThrough log_seen log_gives) (seen_through data_seen)
+          (CallsThrough data_seen data_gives)
+          begun.opened script first owes) (views_of actors) handed begun.archive after closed.archive_now
+          closed.after has.archive archived closed.finished
+          (course_of closed.after.ended its-played (ended_by closed.after.closed.log.failed closed.after.closed.store.failed
+          (failed_of closed.archive_now)))
+          (uncut-none closed.after.ended its-played closed.after.closed.log.failed closed.after.closed.store.failed
+          (failed_of closed.archive_now)))
 
       -- WHAT IT COMES TO
       module _ (words : List (List ℕ)) (archive : Unfused) (source source_now : SourceSeen) (log : L) (store : D) (command : Command) (stops : Stops)
@@ -99,17 +126,17 @@ module _ {L D A : Type 0} (log_seen : L → Seen) (log_gives : L → Call → L 
             rw (closed.course, closed.log, closed.store)
             (driven-comes log_seen log_gives data_seen data_gives words archive source source_now log store command drive stops script
             begun.opened first closed.after running laws (ready left same) actors told
-            (finished-after log_seen log_gives data_seen data_gives begun.opened script seen reads drive.log_only has.may first was
-            after closed.archive_now closed.after closed.finished)
+            (finished-after log_seen log_gives data_seen data_gives begun.opened script seen arch_gives reads
+            drive.log_only has.may first was after closed.archive_now closed.after closed.finished)
             owed
-            (λ threads. finished-reads log_seen log_gives data_seen data_gives begun.opened script seen reads drive.log_only has.may first was
-            after closed.archive_now closed.after closed.finished (read threads))
+            (λ threads. finished-reads log_seen log_gives data_seen data_gives begun.opened script seen arch_gives reads
+            drive.log_only has.may first was after closed.archive_now closed.after closed.finished (read threads))
             begun.followers.items closed.follows has.new has.untold followed
             (closed.told has.room.0 (room-for drive.followers _ begun.followers.items actors has.untold followed.same has.room.1))
             (spends-turns log_seen log_gives data_seen data_gives _ _ drive)
             _
-            (kept-run log_seen log_gives data_seen data_gives begun.opened script seen reads drive.log_only has.may first was
-            (views_of actors) handed begun.archive after closed.archive_now closed.after
+            (kept-run log_seen log_gives data_seen data_gives begun.opened script seen arch_gives reads drive.log_only
+            has.may first was (views_of actors) handed begun.archive after closed.archive_now closed.after
             has.archive archived closed.finished archive same_now drive.archive archives))
 
   -- A RUN WITHOUT MEMORY FOR ITS DRIVE
@@ -120,7 +147,11 @@ module _ {L D A : Type 0} (log_seen : L → Seen) (log_gives : L → Call → L 
     unrun-entered log store entered = entries-then entered (both-same (unrun.log_is ∙ log_same) (unrun.store_is ∙ store_same))
 
     pub unrun-given : IsGivenBack seen (SparedBy ran.course) handed left
-    unrun-given = rw (unrun.course, unrun.device_is, archive_same) (given-memory seen begun.opened handed begun.archive has.archive)
+    unrun-given = rw (unrun.course, unrun.device_is, archive_same)
+        (given-memory seen arch_gives begun.opened handed begun.archive has.archive)
+
+    pub unrun-well : AreWellCalled arch_gives ran.course handed left
+    unrun-well = rw unrun.course (cut-well arch_gives (course.Ended Memory) (λ uncut. uncut) handed left)
 
     module _ (words : List (List ℕ)) (archive : Unfused) (source source_now : SourceSeen) (log : L) (store : D) (command : Command) (stops : Stops)
         (running : CommandRuns source source_now command drive script) (laws : Laws) where
@@ -143,15 +174,15 @@ module _ {L D A : Type 0} (log_seen : L → Seen) (log_gives : L → Call → L 
       (CallsThrough data_seen data_gives) begun.opened script left.0)
 
   abbrev Archived-after : After → Type 0
-  Archived-after after = IfOk after (λ left. HaveArchived (seen_through log_seen) (seen_through data_seen) seen begun.opened script left.0.closed
-      (views_of left.1.items) begun.archive left.2)
+  Archived-after after = IfOk after (λ left. HaveArchived (seen_through log_seen) (seen_through data_seen) seen
+      arch_gives begun.opened script left.0.closed (views_of left.1.items) begun.archive left.2)
 
   abbrev Same-after : After → Type 0
   Same-after after = IfErr after (λ error. (error.1 ≡ begun.opened.log.dev) × (error.2 ≡ begun.opened.store.dev) × (error.3 ≡ begun.archive))
 
   abbrev Closed-after : After → Ran L D → Option A → Type 0
-  Closed-after after ran now = IfOk after (λ left. IsClosedBy log_seen log_gives seen begun.opened.start begun.follows left.0 left.1.items
-      left.2 ran now)
+  Closed-after after ran now = IfOk after (λ left. IsClosedBy log_seen log_gives seen arch_gives begun.opened.start
+      begun.follows left.0 left.1.items left.2 ran now)
 
   abbrev Unrun-after : After → Ran L D → Option A → Type 0
   Unrun-after after ran now = IfErr after (λ error. IsUnrun error.1 error.2 error.3 ran now)
@@ -181,6 +212,13 @@ module _ {L D A : Type 0} (log_seen : L → Seen) (log_gives : L → Call → L 
         run-given left.0 left.1.items left.2 owes archived reads ran now closed
     after-given (Err error) owes archived same closed unrun =
         unrun-given error.1 error.2 error.3 ran now same.0 same.1 same.2 unrun
+
+    pub after-well : (after : After) → Owed-after after → Archived-after after → Same-after after
+        → Closed-after after ran now → Unrun-after after ran now → AreWellCalled arch_gives ran.course handed now
+    after-well (Ok left) owes archived same closed unrun =
+        run-well left.0 left.1.items left.2 owes archived reads ran now closed
+    after-well (Err error) owes archived same closed unrun =
+        unrun-well error.1 error.2 error.3 ran now same.0 same.1 same.2 unrun
 
     module _ (words : List (List ℕ)) (archive : Unfused) (source source_now : SourceSeen) (log : L) (store : D) (command : Command) (stops : Stops)
         (running : CommandRuns source source_now command drive script) (laws : Laws) (archives : is_some handed ≡ drive.archive) where

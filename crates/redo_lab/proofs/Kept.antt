@@ -19,8 +19,9 @@ use Rattle.model_theorem.specs.{Opened, Ran}
 use Rattle.redo_archive.specs.{IsBegun, PartArchives}
 use Rattle.redo_archive.specs.Part.{Part}
 use Rattle.redo_archiver.specs.{IsToFinish}
+use Rattle.redo_disk.proofs.Made.{ends_then, serves_end}
 use Rattle.redo_disk.proofs.Told.{known-as, still-known}
-use Rattle.redo_disk.specs.{Call}
+use Rattle.redo_disk.specs.{Call, EndWith, MakesCalls}
 use Rattle.redo_disk.specs.Seen.{Seen}
 use Rattle.redo_disk.specs.declared.error.DevError.{DevError}
 use Rattle.redo_disk.specs.declared.error.DevError.TheVariants.{Failed}
@@ -41,8 +42,10 @@ use Rattle.redo_lab.proofs.Opening.{at-start}
 use Rattle.redo_lab.proofs.Owed.{IsOwed, IsReadAfter, owed-back, read-none, read-some, reads-back}
 use Rattle.redo_lab.specs.Archived.{IsArchiveOf}
 use Rattle.redo_lab.specs.Archiving.{ArchivesRan, AreBegun, HaveFinished, device_of, failed_of, read_back}
-use Rattle.redo_lab.specs.Call.{IsUnfused, Unfused, unfused}
+use Rattle.redo_lab.specs.Call.{IsUnfused, IsWellCalled, Unfused, unfused}
 use Rattle.redo_lab.specs.Handed.{IsOpenedAt}
+use Rattle.redo_lab.specs.Runs.{AreWellCalled, IsUncut}
+use Rattle.redo_lab.specs.declared.playing.Course.{Course}
 
 -- what follows where it is told, by what is so then
 on-told : (o : Option Disk) {P Q R : Type 0} → IfSome o (λ disk. P) → (P → IfSome o (λ disk. Q)) → (P → Q → R) → IfSome o (λ disk. R)
@@ -87,13 +90,14 @@ module _ {L D : Type 0} (log_seen : L → Seen) (log_gives : L → Call → L �
       good-from given.shape script driven.closed.history may.fits.lines
       (have-lines script given.shape.space given.start driven.closed.marks driven.closed.history legal)
 
-  module _ {A : Type 0} (seen : A → Seen) (reads : ArchiveReads) (log_only : Bool) (may : MayBegin given script log_only)
-      (first : Driven (Fused L) (Fused D)) (owed : Owed first) where
+  module _ {A : Type 0} (seen : A → Seen) (arch_gives : A → Call → A → Type 0) (reads : ArchiveReads) (log_only : Bool)
+      (may : MayBegin given script log_only) (first : Driven (Fused L) (Fused D)) (owed : Owed first) where
     module _ (actors : List model.Actor) (device : A) (begun after new : Part A) (part : log.Part (Fused L))
-        (is_begun : IsBegun seen given.shape given.start given.pages device begun)
-        (has : HasArchived (seen_through log_seen) (seen_through data_seen) seen given script first.closed actors begun after)
-        (finishes : Finishes (seen_through log_seen) (CallsThrough log_seen log_gives) seen first.closed.marks.flushed
-        first.closed.log part after new)
+        (is_begun : IsBegun seen arch_gives given.shape given.start given.pages device begun)
+        (has : HasArchived (seen_through log_seen) (seen_through data_seen) seen arch_gives given script first.closed
+        actors begun after)
+        (finishes : Finishes (seen_through log_seen) (CallsThrough log_seen log_gives) seen arch_gives
+        first.closed.marks.flushed first.closed.log part after new)
         (done : first.ended ≡ Done → part.failed ≡ None → new.failed ≡ None → new.marks.mark ≡ first.closed.marks.flushed) where
       abbrev read : Driven (Fused L) (Fused D)
       read = read_back first part
@@ -172,11 +176,30 @@ module _ {L D : Type 0} (log_seen : L → Seen) (log_gives : L → Call → L �
             (has.run is_begun.holds reading as_read);
       }
 
+      -- where no call of it answered an error in the end, none did before
+      well-some : new.failed ≡ None → IsWellCalled arch_gives device new.dev
+      well-some none = by after.failed refl
+        where
+          by : (was : Option DevError) → after.failed ≡ was → IsWellCalled arch_gives device new.dev
+          by None is =
+              let driven : IsWellCalled arch_gives begun.dev after.dev =
+              subst (λ (e : Option DevError). MakesCalls arch_gives begun.dev after.dev (EndWith e)) is
+              (has.same.calls.live is_begun.live) in
+              let rest : IsWellCalled arch_gives after.dev new.dev =
+              subst (λ (e : Option DevError). MakesCalls arch_gives after.dev new.dev (EndWith e)) none
+              ((finishes.same is).calls.live is) in
+              ends_then (serves_end is_begun.calls) (ends_then driven rest)
+          by (Some e) is =
+              let still = finishes.over (λ none. let z = sym none ∙ is in cc) in
+              let bad : Some e ≡ None = sym is ∙ ap (λ (p : Part A). p.failed) (sym still) ∙ none in
+              absurd (cc)
+
     -- OF EACH RUN
     pub kept-run : (actors : List model.Actor) (device : Option A) (begun after new : Option (Part A)) (driven : Driven (Fused L) (Fused D))
-        → AreBegun seen given device begun
-        → HaveArchived (seen_through log_seen) (seen_through data_seen) seen given script first.closed actors begun after
-        → HaveFinished (seen_through log_seen) (CallsThrough log_seen log_gives) seen first driven after new
+        → AreBegun seen arch_gives given device begun
+        → HaveArchived (seen_through log_seen) (seen_through data_seen) seen arch_gives given script first.closed actors
+        begun after
+        → HaveFinished (seen_through log_seen) (CallsThrough log_seen log_gives) seen arch_gives first driven after new
         → (archive : Unfused) → IsUnfused seen device (device_of new) archive → (archived : Bool) → is_some device ≡ archived
         → IsKept archive archived driven (failed_of new)
     kept-run actors None None None None driven are has finished archive same archived is =
@@ -193,9 +216,27 @@ module _ {L D : Type 0} (log_seen : L → Seen) (log_gives : L → Call → L �
     kept-run actors (Some device) (Some begun) None new driven are has finished archive same archived is = absurd has
     kept-run actors (Some device) (Some begun) (Some after) None driven are has finished archive same archived is = absurd finished
 
+    pub well-run : (actors : List model.Actor) (device : Option A) (begun after new : Option (Part A))
+        (driven : Driven (Fused L) (Fused D))
+        → AreBegun seen arch_gives given device begun
+        → HaveArchived (seen_through log_seen) (seen_through data_seen) seen arch_gives given script first.closed actors
+        begun after
+        → HaveFinished (seen_through log_seen) (CallsThrough log_seen log_gives) seen arch_gives first driven after new
+        → (course : Course) → (IsUncut course → failed_of new ≡ None) → AreWellCalled arch_gives course device
+        (device_of new)
+    well-run actors None None None None driven are has finished course none = tt
+    well-run actors (Some device) (Some begun) (Some after) (Some new) driven are has finished course none = λ uncut.
+        well-some actors device begun after new driven.closed.log are has finished.finishes finished.done (none uncut)
+    well-run actors None None None (Some new) driven are has finished course none = absurd finished
+    well-run actors None None (Some after) new driven are has finished course none = absurd has
+    well-run actors None (Some begun) after new driven are has finished course none = absurd are
+    well-run actors (Some device) None after new driven are has finished course none = absurd are
+    well-run actors (Some device) (Some begun) None new driven are has finished course none = absurd has
+    well-run actors (Some device) (Some begun) (Some after) None driven are has finished course none = absurd finished
+
     -- the run and what is owed of it
     pub finished-after : (old new : Option (Part A)) (driven : Driven (Fused L) (Fused D))
-        → HaveFinished (seen_through log_seen) (CallsThrough log_seen log_gives) seen first driven old new
+        → HaveFinished (seen_through log_seen) (CallsThrough log_seen log_gives) seen arch_gives first driven old new
         → IsReadAfter log_seen data_seen given.start first driven
     finished-after None None driven finished =
         subst (λ (d : Driven (Fused L) (Fused D)). IsReadAfter log_seen data_seen given.start first d) (sym finished)
@@ -207,7 +248,8 @@ module _ {L D : Type 0} (log_seen : L → Seen) (log_gives : L → Call → L �
     finished-after (Some old) None driven finished = absurd finished
 
     pub finished-owed : (old new : Option (Part A)) (driven : Driven (Fused L) (Fused D))
-        → HaveFinished (seen_through log_seen) (CallsThrough log_seen log_gives) seen first driven old new → Owed driven
+        → HaveFinished (seen_through log_seen) (CallsThrough log_seen log_gives) seen arch_gives first driven old new
+        → Owed driven
     finished-owed None None driven finished = subst (λ (d : Driven (Fused L) (Fused D)). Owed d) (sym finished) owed
     finished-owed (Some old) (Some new) driven finished = subst (λ (d : Driven (Fused L) (Fused D)). Owed d) (sym finished.read)
         (owed-back (seen_through log_seen) (CallsThrough log_seen log_gives) (seen_through data_seen) (CallsThrough data_seen data_gives)
@@ -220,7 +262,8 @@ module _ {L D : Type 0} (log_seen : L → Seen) (log_gives : L → Call → L �
     ReadsSo driven = driven.closed.lost ≡ None → ReadsToMarks (seen_through log_seen) (seen_through data_seen) given script driven.closed
 
     pub finished-reads : (old new : Option (Part A)) (driven : Driven (Fused L) (Fused D))
-        → HaveFinished (seen_through log_seen) (CallsThrough log_seen log_gives) seen first driven old new → ReadsSo first → ReadsSo driven
+        → HaveFinished (seen_through log_seen) (CallsThrough log_seen log_gives) seen arch_gives first driven old new
+        → ReadsSo first → ReadsSo driven
     finished-reads None None driven finished reads = subst ReadsSo (sym finished) reads
     finished-reads (Some old) (Some new) driven finished reads = subst ReadsSo (sym finished.read)
         (λ none. reads-back (seen_through log_seen) (CallsThrough log_seen log_gives) (seen_through data_seen) (CallsThrough data_seen data_gives)
@@ -228,37 +271,39 @@ module _ {L D : Type 0} (log_seen : L → Seen) (log_gives : L → Call → L �
     finished-reads None (Some new) driven finished reads = absurd finished
     finished-reads (Some old) None driven finished reads = absurd finished
 
--- WHAT MAY BE APPENDED after a run
-pub to-finish : {L D A : Type 0} (log_seen : L → Seen) (data_seen : D → Seen) (seen : A → Seen) (given : store.Opened L D) (script : List ScriptLine)
-    (first : Driven L D) (actors : List model.Actor) (begun after : Option (Part A))
-    → HaveArchived log_seen data_seen seen given script first.closed actors begun after
-    → IfSome after (IsToFinish seen first.closed.marks.flushed)
-to-finish log_seen data_seen seen given script first actors begun None has = tt
-to-finish log_seen data_seen seen given script first actors None (Some after) has = absurd has
-to-finish log_seen data_seen seen given script first actors (Some begun) (Some after) has = has.to_finish
+module _ {L D A : Type 0} (log_seen : L → Seen) (data_seen : D → Seen) (seen : A → Seen)
+    (arch_gives : A → Call → A → Type 0) (given : store.Opened L D) (script : List ScriptLine) (first : Driven L D)
+    (actors : List model.Actor) where
+  -- WHAT MAY BE APPENDED after a run
+  pub to-finish : (begun after : Option (Part A))
+      → HaveArchived log_seen data_seen seen arch_gives given script first.closed actors begun after
+      → IfSome after (IsToFinish seen first.closed.marks.flushed)
+  to-finish begun None has = tt
+  to-finish None (Some after) has = absurd has
+  to-finish (Some begun) (Some after) has = has.to_finish
 
-pub still-started : {L D A : Type 0} (log_seen : L → Seen) (data_seen : D → Seen) (seen : A → Seen) (given : store.Opened L D) (script : List ScriptLine)
-    (first : Driven L D) (actors : List model.Actor) (device : Option A) (begun after : Option (Part A))
-    → START_LSN ≤ given.start → AreBegun seen given device begun
-    → HaveArchived log_seen data_seen seen given script first.closed actors begun after
-    → IfSome after (λ part. START_LSN ≤ part.start)
-still-started log_seen data_seen seen given script first actors device begun None low are has = tt
-still-started log_seen data_seen seen given script first actors device None (Some after) low are has = absurd has
-still-started log_seen data_seen seen given script first actors None (Some begun) (Some after) low are has = absurd are
-still-started log_seen data_seen seen given script first actors (Some device) (Some begun) (Some after) low are has =
-    let same : after.start ≡ given.start = has.same.start ∙ are.start_is in omega arith
+  pub still-started : (device : Option A) (begun after : Option (Part A)) → START_LSN ≤ given.start
+      → AreBegun seen arch_gives given device begun
+      → HaveArchived log_seen data_seen seen arch_gives given script first.closed actors begun after
+      → IfSome after (λ part. START_LSN ≤ part.start)
+  still-started device begun None low are has = tt
+  still-started device None (Some after) low are has = absurd has
+  still-started None (Some begun) (Some after) low are has = absurd are
+  still-started (Some device) (Some begun) (Some after) low are has =
+      let same : after.start ≡ given.start = has.same.start ∙ are.start_is in omega arith
 
 -- a device is given back where one was handed on
-pub still-some : {L D A : Type 0} (log_seen : L → Seen) (gives : L → Call → L → Type 0) (data_seen : D → Seen) (seen : A → Seen)
-    (given : store.Opened L D) (script : List ScriptLine) (first driven : Driven L D) (actors : List model.Actor)
-    (device : Option A) (begun after new : Option (Part A))
-    → AreBegun seen given device begun → HaveArchived log_seen data_seen seen given script first.closed actors begun after
-    → HaveFinished log_seen gives seen first driven after new → is_some (device_of new) ≡ is_some device
-still-some log_seen gives data_seen seen given script first driven actors None None None None are has finished = refl
-still-some log_seen gives data_seen seen given script first driven actors (Some device) (Some begun) (Some after) (Some new) are has finished = refl
-still-some log_seen gives data_seen seen given script first driven actors None None None (Some new) are has finished = absurd finished
-still-some log_seen gives data_seen seen given script first driven actors None None (Some after) new are has finished = absurd has
-still-some log_seen gives data_seen seen given script first driven actors None (Some begun) after new are has finished = absurd are
-still-some log_seen gives data_seen seen given script first driven actors (Some device) None after new are has finished = absurd are
-still-some log_seen gives data_seen seen given script first driven actors (Some device) (Some begun) None new are has finished = absurd has
-still-some log_seen gives data_seen seen given script first driven actors (Some device) (Some begun) (Some after) None are has finished = absurd finished
+module _ {L D A : Type 0} (log_seen : L → Seen) (gives : L → Call → L → Type 0) (data_seen : D → Seen) (seen : A → Seen)
+    (arch_gives : A → Call → A → Type 0) (given : store.Opened L D) (script : List ScriptLine)
+    (first driven : Driven L D) (actors : List model.Actor) where
+  pub still-some : (device : Option A) (begun after new : Option (Part A)) → AreBegun seen arch_gives given device begun
+      → HaveArchived log_seen data_seen seen arch_gives given script first.closed actors begun after
+      → HaveFinished log_seen gives seen arch_gives first driven after new → is_some (device_of new) ≡ is_some device
+  still-some None None None None are has finished = refl
+  still-some (Some device) (Some begun) (Some after) (Some new) are has finished = refl
+  still-some None None None (Some new) are has finished = absurd finished
+  still-some None None (Some after) new are has finished = absurd has
+  still-some None (Some begun) after new are has finished = absurd are
+  still-some (Some device) None after new are has finished = absurd are
+  still-some (Some device) (Some begun) None new are has finished = absurd has
+  still-some (Some device) (Some begun) (Some after) None are has finished = absurd finished

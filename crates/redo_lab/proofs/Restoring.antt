@@ -1,5 +1,5 @@
 -- What `restore` comes to.
-use Rattle.std.proofs.Common.{ℕ, ◌≡◌, List, Result, Ok, Err, IfOk, IfSome, refl, ◌∙◌}
+use Rattle.std.proofs.Common.{ℕ, ◌≡◌, List, None, Result, Ok, Err, IfOk, IfSome, refl, ◌∙◌}
 use Rattle.std.proofs.lemmas.Bool.{false≢true}
 use Rattle.model_archive.specs.{IsRestored, RefusesRestore}
 use Rattle.model_archive.specs.declared.refusal.RestoreRefusal.{RestoreRefusal}
@@ -13,15 +13,18 @@ use Rattle.model_script.specs.declared.asked.Command.TheVariants.{Restore}
 use Rattle.redo_archive.specs.{HasRestoreCause}
 use Rattle.redo_archive.specs.declared.restored.RestoreFault.{RestoreFault}
 use Rattle.redo_archive.specs.declared.restored.RestoreFault.TheVariants.{Missing, To, Page, Block, Record, Dev, NoMemory}
+use Rattle.redo_disk.proofs.Calls.{MayEndWith-good}
+use Rattle.redo_disk.proofs.Made.{weaker_calls}
+use Rattle.redo_disk.specs.{Call, MakesCalls, ReadsMayEndWith}
 use Rattle.redo_disk.specs.Seen.{StillTells}
 use Rattle.redo_lab.specs.declared.outcome.Outcome.{Outcome}
 use Rattle.redo_lab.specs.declared.outcome.Outcome.TheVariants as outcome
 use Rattle.redo_lab.proofs.Alone.{IsLeftAlone, tells-alone, unfailed-alone, unwritten-alone}
 use Rattle.redo_lab.proofs.Ends.{at-some}
 use Rattle.redo_lab.proofs.Told.{still-equal}
-use Rattle.redo_lab.specs.Call.{BothDevices, LabCall, WhereArchiveTold}
+use Rattle.redo_lab.specs.Call.{BothDevices, IsWellCalled, LabCall, WhereArchiveTold}
 use Rattle.redo_lab.specs.Cause.{CanRestore}
-use Rattle.redo_lab.specs.Ending.{EndsWith, IsDoneOrKeptFrom, IsOutcome}
+use Rattle.redo_lab.specs.Ending.{EndsWith, IsDoneOrKeptFrom, IsOutcome, WhereDone}
 use Rattle.redo_lab.specs.Restoring.{unrestored}
 use Rattle.redo_lab.specs.Runs.{outcome_of}
 
@@ -86,3 +89,9 @@ module _ (call : LabCall) (to : ℕ) (unread : call.source_now ≡ call.source) 
       (λ can. can.unfailed (risen refl))
   unrestored-ends one NoMemory cause risen = restore-ends (outcome.Fault fault.Memory)
       (λ runs. absurd (false≢true runs)) (λ can. tt)
+
+-- where something is restored no call of the archive's device answered an error
+pub restored-well : {A E : Type 0} (gives : A → Call → A → Type 0) (old new : A) (r : Result (List ℕ) E)
+    → MakesCalls gives old new (ReadsMayEndWith None) → WhereDone (outcome_of r) (IsWellCalled gives old new)
+restored-well gives old new (Ok text) made = weaker_calls (λ calls is. MayEndWith-good calls is.ends) made
+restored-well gives old new (Err error) made = tt

@@ -29,11 +29,12 @@ use Rattle.redo_lab.specs.Call.{Guarded, LabCall, Unfused, WhereToldNow, mids}
 use Rattle.redo_lab.specs.Cause.{CanPlay}
 use Rattle.redo_lab.specs.Devices.{IsArmed}
 use Rattle.redo_lab.specs.Laws.{Laws}
-use Rattle.redo_lab.specs.Runs.{ComesTo, CommandRuns, HasEnded, HasFailed, IsLeftBy, IsPlayedTo, IsReportOf, IsRunPrinted, IsToldRightly, ran_of, summary_of}
+use Rattle.redo_lab.specs.Runs.{ComesTo, CommandRuns, HasEnded, HasFailed, IsLeftBy, IsPlayedTo, IsReportOf}
+use Rattle.redo_lab.specs.Runs.{IsRunPrinted, IsToldRightly, IsUncut, ran_of, summary_of}
 use Rattle.redo_lab.specs.Store.{AreRefused}
 use Rattle.redo_lab.specs.Archived.{IsArchived, IsReportWith}
 use Rattle.redo_lab.specs.Told.{IsRunText, IsSummaryText}
-use Rattle.redo_lab.specs.Ending.{EndsWith, SparesArchive}
+use Rattle.redo_lab.specs.Ending.{EndsWith, SparesArchive, WhereDone}
 
 -- OPENING WAS STOPPED.
 pub ends-stopped : (call : LabCall) (command : Command) (drive : Drive) (script : List ScriptLine) → CommandRuns call.source call.source_now command drive script → Laws
@@ -58,6 +59,14 @@ pub spares-printed : (archive : Unfused) (script : List ScriptLine) (played : de
 spares-printed archive script played f (outcome.Text text) printed = tt
 spares-printed archive script played f (outcome.Report text cut) printed = tt
 spares-printed archive script played f (outcome.Fault fault) printed = subst (λ (f : Fault). SparesArchive archive (outcome.Fault f)) (sym printed) tt
+
+-- where a run comes to its text no device ended it
+pub uncut-printed : (script : List ScriptLine) (played : declared.Played) (f : Option Fault) (o : Outcome)
+    → IsRunPrinted script (ran_of played) played.follows.items f o → WhereDone o (IsUncut (Played played f))
+uncut-printed script played f (outcome.Text text) printed = subst (λ (f : Option Fault). IsUncut (Played played f))
+    (sym printed.0) tt
+uncut-printed script played f (outcome.Report text cut) printed = tt
+uncut-printed script played f (outcome.Fault fault) printed = tt
 
 -- A TEXT OF A RUN
 run-text : (call : LabCall) (command : Command) (drive : Drive) (script : List ScriptLine) (run : Ran) (left : List (ℕ × ℕ))

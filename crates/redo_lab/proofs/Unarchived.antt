@@ -3,13 +3,15 @@ use Rattle.std.proofs.Common.{ℕ, ◌≡◌, true, false, if◌then◌else◌, 
 use Rattle.model_report.specs.declared.fault.Fault.TheVariants as fault
 use Rattle.model_script.specs.declared.asked.Command.TheVariants.{Restore}
 use Rattle.model_script.specs.declared.asked.Drive.{Drive}
-use Rattle.redo_lab.specs.Ending.{SparesArchive}
+use Rattle.redo_disk.proofs.Made.{none_ends}
+use Rattle.redo_disk.specs.{Call}
+use Rattle.redo_lab.specs.Ending.{SparesArchive, WhereDone}
 use Rattle.redo_lab.specs.declared.crash_command.Crashing.{Crashing}
 use Rattle.redo_lab.specs.declared.outcome.Outcome.{Outcome}
 use Rattle.redo_lab.specs.declared.outcome.Outcome.TheVariants as outcome
 use Rattle.redo_lab.specs.Asked.{calls_archive}
 use Rattle.redo_lab.specs.Allowed.{HasAllowedNumbers}
-use Rattle.redo_lab.specs.Call.{Unfused}
+use Rattle.redo_lab.specs.Call.{IsWellCalled, Unfused}
 use Rattle.redo_lab.specs.Cause.{archive_size}
 use Rattle.redo_lab.specs.Runs.{command_with}
 
@@ -42,3 +44,10 @@ pub spares-either : (archived : Bool) (archive : Unfused) (o : Outcome) → (arc
     → (archived ≡ false → archive.now ≡ archive.entry) → SparesArchive archive o
 spares-either true archive o archived alone = archived refl
 spares-either false archive o archived alone = spares-untouched archive o (alone refl)
+
+-- and no call of it answered an error
+pub well-untouched : {A : Type 0} (gives : A → Call → A → Type 0) (device : A) (o : Outcome)
+    → WhereDone o (IsWellCalled gives device device)
+well-untouched gives device (outcome.Text text) = none_ends gives device
+well-untouched gives device (outcome.Report text cut) = tt
+well-untouched gives device (outcome.Fault cut) = tt

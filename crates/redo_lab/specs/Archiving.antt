@@ -26,10 +26,12 @@ IsUnbegunBy seen device fault left =
     ((fault ≡ ArchiveDevice) × HasRisen (seen device).faults (seen left).faults) ⊎ (fault ≡ Memory)
 
 -- an archive is begun on a device, if one was handed on
-abbrev pub AreBegun : {L D A : Type 0} → (A → Seen) → store.Opened L D → Option A → Option (Part A) → Type 0
-AreBegun seen opened None None = ⊤
-AreBegun seen opened (Some device) (Some part) = IsBegun seen opened.shape opened.start opened.pages device part
-AreBegun seen opened device part = ⊥
+abbrev pub AreBegun : {L D A : Type 0} → (A → Seen) → (A → Call → A → Type 0) → store.Opened L D → Option A
+    → Option (Part A) → Type 0
+AreBegun seen gives opened None None = ⊤
+AreBegun seen gives opened (Some device) (Some part) =
+    IsBegun seen gives opened.shape opened.start opened.pages device part
+AreBegun seen gives opened device part = ⊥
 
 -- none is, though a device was handed on
 abbrev pub AreUnbegunBy : {A : Type 0} → (A → Seen) → Option A → Fault → A → Type 0
@@ -52,18 +54,20 @@ read_back driven part = record driven { closed = record driven.closed { log = pa
 -- WHAT A RUN'S ARCHIVE LACKED WAS APPENDED: the log part was read alone. Where all users had ended and neither part failed, the
 -- archive has the run up to FLUSHED then.
 pub record HasFinished {L D A : Type 0} (log_seen : L → Seen) (gives : L → Call → L → Type 0) (seen : A → Seen)
-    (before after : Driven L D) (old new : Part A) : Type 0 where
+    (arch_gives : A → Call → A → Type 0) (before after : Driven L D) (old new : Part A) : Type 0 where
   pub read : after ≡ read_back before after.closed.log
-  pub finishes : Finishes log_seen gives seen before.closed.marks.flushed before.closed.log after.closed.log old new
+  pub finishes : Finishes log_seen gives seen arch_gives before.closed.marks.flushed before.closed.log
+      after.closed.log old new
   pub done : before.ended ≡ Done → after.closed.log.failed ≡ None → new.failed ≡ None
       → new.marks.mark ≡ before.closed.marks.flushed
 
 -- the same of a run that has an archive; of another there is nothing to be done
-abbrev pub HaveFinished : {L D A : Type 0} → (L → Seen) → (L → Call → L → Type 0) → (A → Seen)
+abbrev pub HaveFinished : {L D A : Type 0} → (L → Seen) → (L → Call → L → Type 0) → (A → Seen) → (A → Call → A → Type 0)
     → (before after : Driven L D) → (old new : Option (Part A)) → Type 0
-HaveFinished log_seen gives seen before after None None = after ≡ before
-HaveFinished log_seen gives seen before after (Some old) (Some new) = HasFinished log_seen gives seen before after old new
-HaveFinished log_seen gives seen before after old new = ⊥
+HaveFinished log_seen gives seen arch_gives before after None None = after ≡ before
+HaveFinished log_seen gives seen arch_gives before after (Some old) (Some new) =
+    HasFinished log_seen gives seen arch_gives before after old new
+HaveFinished log_seen gives seen arch_gives before after old new = ⊥
 
 -- WHAT A DRIVE LEAVES OF AN ARCHIVE that was begun for its run: the groups of the run over the opened pages, up to a mark that is at
 -- most FLUSHED, as is the one asked for last; and no checkpoint is above the block of the mark. Each group fits the store.

@@ -30,13 +30,13 @@ use Rattle.redo_lab.specs.declared.playing.Stops.{Stops}
 
 -- A RUN STANDS READY FOR ITS DRIVE: it may begin, with as many new followers as are asked for and room for what is told of them, and
 -- its archive is new, if a device was handed on for one.
-pub record HasBegun {L D A : Type 0} (seen : A → Seen) (drive : Drive) (script : List ScriptLine) (handed : Option A)
-    (begun : Begun L D A) : Type 0 where
+pub record HasBegun {L D A : Type 0} (seen : A → Seen) (gives : A → device.Call → A → Type 0) (drive : Drive)
+    (script : List ScriptLine) (handed : Option A) (begun : Begun L D A) : Type 0 where
   pub may : MayBegin begun.opened script drive.log_only
   pub new : AreNewFollowers begun.opened.start begun.followers.items
   pub untold : AreUntold drive.followers begun.followers.items
   pub room : (begun.follows.items ≡ []) × (drive.followers ≤ vec_capacity begun.follows)
-  pub archive : AreBegun seen begun.opened handed begun.archive
+  pub archive : AreBegun seen gives begun.opened handed begun.archive
   pub new_archive : IfSome begun.archive (IsNewArchive seen begun.opened script)
 
 -- it does, on a store that stands opened; or the run came to this before its drive
@@ -55,12 +55,14 @@ AreGivenOn log data_device (Err left) = AreOf log data_device left.0.log left.0.
 
 -- A RUN THAT WAS DRIVEN IS CLOSED: what its archive lacked was appended, it came so far, its followers are told of, and the devices are
 -- given back, as is the archive's.
-pub record IsClosedBy {L D A : Type 0} (log_seen : L → Seen) (gives : L → device.Call → L → Type 0) (seen : A → Seen) (start : ℕ)
-    (room : Vec Followed Global) (driven : Driven (Fused L) (Fused D)) (actors : List (Actor Kept)) (archive : Option (Part A))
+pub record IsClosedBy {L D A : Type 0} (log_seen : L → Seen) (gives : L → device.Call → L → Type 0) (seen : A → Seen)
+    (arch_gives : A → device.Call → A → Type 0) (start : ℕ) (room : Vec Followed Global)
+    (driven : Driven (Fused L) (Fused D)) (actors : List (Actor Kept)) (archive : Option (Part A))
     (ran : Ran L D) (left : Option A) : Type 0 where
   pub after : Driven (Fused L) (Fused D)
   pub archive_now : Option (Part A)
-  pub finished : HaveFinished (seen_through log_seen) (CallsThrough log_seen gives) seen driven after archive archive_now
+  pub finished : HaveFinished (seen_through log_seen) (CallsThrough log_seen gives) seen arch_gives driven after
+      archive archive_now
   pub follows : Vec Followed Global
   pub told : room.items ≡ [] → length (followers_in actors) ≤ vec_capacity room → AllZip IsToldOf (followers_in actors) follows.items
   pub course : ran.course ≡ course_of after.ended (played_of start after.closed follows)

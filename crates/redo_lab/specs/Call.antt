@@ -11,6 +11,7 @@ use Rattle.model_script.specs.declared.script.ScriptLine.{ScriptLine}
 use Rattle.model_store.specs.{IsFair, IsFairLog, Opens}
 use Rattle.model_theorem.specs.{Opened, Ran}
 use Rattle.redo_drive.specs.declared.drive.RunEnd.{RunEnd}
+use Rattle.redo_disk.specs.{Call, EndWith, MakesCalls}
 use Rattle.redo_disk.specs.Seen.{Seen, StillTells}
 use Rattle.redo_io.specs.{SourceSeen}
 use Rattle.redo_memdisk.specs.{armed_from, fuse_of, inner_of}
@@ -44,6 +45,10 @@ abbrev pub IsUnfused : {A : Type 0} → (A → Seen) → (device now : Option A)
 IsUnfused seen None None archive = ⊤
 IsUnfused seen (Some device) (Some now) archive = archive ≡ unfused seen device now
 IsUnfused seen device now archive = ⊥
+
+-- the archive's device went from the one to the other by calls of which none answered an error
+abbrev pub IsWellCalled : {A : Type 0} → (A → Call → A → Type 0) → A → A → Type 0
+IsWellCalled gives device now = MakesCalls gives device now (EndWith None)
 
 -- What a call was handed, and what has become of it. `drives` says that the run of this script on this opened store is the one to
 -- which the drive leads, that this is told of the followers that it leaves, that it ended so, and what both devices meant then: the

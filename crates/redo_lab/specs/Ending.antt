@@ -97,13 +97,21 @@ SparesArchive archive (outcome.Fault (Turns turns user)) = ⊤
 SparesArchive archive (outcome.Fault fault) = archive.now ≡ archive.entry
 SparesArchive archive done = ⊤
 
--- the words ask for this command, which comes to an outcome that is printed
-pub record EndsCommand (call : LabCall) (sink sink_now : SinkSeen) (status : ℕ) (command : Command) : Type 0 where
+-- this is so where the command comes to its text
+abbrev pub WhereDone : Outcome → Type 0 → Type 0
+WhereDone (outcome.Text text) P = P
+WhereDone cut P = ⊤
+
+-- The words ask for this command, which comes to an outcome that is printed. Where it comes to its text no call of the
+-- archive's device answered an error.
+pub record EndsCommand (call : LabCall) (archive_well : Type 0) (sink sink_now : SinkSeen) (status : ℕ)
+    (command : Command) : Type 0 where
   pub asked : command_of call.words ≡ Some command
   pub outcome : Outcome
   pub ends : EndsWith call command outcome
   pub restores : (to : ℕ) → command ≡ Restore to → OnlyReadsArchive call
   pub spares : (drive : Drive) → command ≡ Run drive → SparesArchive call.archive outcome
+  pub well : WhereDone outcome archive_well
   pub printed : IsOutcomePrinted outcome status sink sink_now
 
 -- the words are no command, or there was no memory to read them, and nothing was done
@@ -116,7 +124,9 @@ pub record HasNoCommand (call : LabCall) (sink sink_now : SinkSeen) (status : �
   pub untouched : call.archive.now ≡ call.archive.entry
   pub left : (command : Command) → command_of call.words ≡ Some command → runs_script command ≡ true → LeavesStore call
 
--- the call had this sink, which is this now, and ended with this status
-pub record IsCallOf (call : LabCall) (sink sink_now : SinkSeen) (status : ℕ) : Type 0 where
-  pub way : HasNoCommand call sink sink_now status ⊎ ((command : Command) × EndsCommand call sink sink_now status command)
+-- The call had this sink, which is this now, and ended with this status. `archive_well` says that no call of the
+-- archive's device answered an error.
+pub record IsCallOf (call : LabCall) (archive_well : Type 0) (sink sink_now : SinkSeen) (status : ℕ) : Type 0 where
+  pub way : HasNoCommand call sink sink_now status
+      ⊎ ((command : Command) × EndsCommand call archive_well sink sink_now status command)
   pub reads_little : TakesAtMost (MAX_SCRIPT + PIECE) call.source.left call.source_now.left

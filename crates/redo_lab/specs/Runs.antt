@@ -18,6 +18,7 @@ use Rattle.model_script.specs.declared.script.ScriptLine.{ScriptLine}
 use Rattle.model_store.specs.{IsReading}
 use Rattle.model_store.specs.Reading.{Reading}
 use Rattle.model_theorem.specs.{entries_of, marks_of, Opened, Ran, room_of, run_start}
+use Rattle.redo_disk.specs.{Call}
 use Rattle.redo_disk.specs.Seen.{Seen}
 use Rattle.redo_disk.specs.declared.error.DevError.{DevError}
 use Rattle.redo_disk.specs.declared.error.DevError.TheVariants as device
@@ -45,7 +46,8 @@ use Rattle.redo_lab.specs.declared.playing.Ran as declared
 use Rattle.redo_lab.specs.declared.playing.Stops.{Stops}
 use Rattle.redo_lab.specs.Archived.{IsArchived}
 use Rattle.redo_lab.specs.Asked.{IsScriptFor, drive_of, reads_script}
-use Rattle.redo_lab.specs.Call.{BothDevices, LabCall, Unfused, WhereOpened, WhereToldAtEntry, WhereToldNow, mids, unfused}
+use Rattle.redo_lab.specs.Call.{BothDevices, IsWellCalled, LabCall, Unfused, WhereOpened, WhereToldAtEntry}
+use Rattle.redo_lab.specs.Call.{WhereToldNow, mids, unfused}
 use Rattle.redo_lab.specs.Devices.{AreArmed, ArePrepared, IsUnarmed, to_be_armed}
 use Rattle.redo_lab.specs.Handed.{AreOf, IsOpenedAt}
 use Rattle.redo_lab.specs.Ending.{EndsWith, SparesArchive}
@@ -147,6 +149,16 @@ abbrev pub SparedBy : Course → Unfused → Type 0
 SparedBy (course.Ended fault) archive = SparesArchive archive (outcome.Fault fault)
 SparedBy (course.Stopped fault) archive = SparesArchive archive (outcome.Fault fault)
 SparedBy (course.Played played fault) archive = ⊤
+
+-- the lines were run, and no device ended the run
+abbrev pub IsUncut : Course → Type 0
+IsUncut (course.Played played None) = ⊤
+IsUncut _ = ⊥
+
+-- no call of the archive's device answered an error in a run that no device ended, if one was handed on
+abbrev pub AreWellCalled : {A : Type 0} → (A → Call → A → Type 0) → Course → (device now : Option A) → Type 0
+AreWellCalled gives course (Some device) (Some now) = IsUncut course → IsWellCalled gives device now
+AreWellCalled gives course device now = ⊤
 
 -- WHAT BECOMES OF THE ARCHIVE'S DEVICE, if one was handed on: it is given back, and so
 abbrev pub IsGivenBack : {A : Type 0} → (A → Seen) → (Unfused → Type 0) → (device now : Option A) → Type 0

@@ -60,7 +60,7 @@ fn begin_archive<L: Sectors, D: Sectors, A: Sectors>(
     requires runnable { IsRunnable opened.now }
     requires start { IsRunStart opened.now.start }
     requires room { pages_end opened.now.shape ≤ (A.seen arch).size }
-    ensures begun { IfOk result (IsBegun A.seen opened.now.shape opened.now.start opened.now.pages arch) }
+    ensures begun { IfOk result (IsBegun A.seen A.gives opened.now.shape opened.now.start opened.now.pages arch) }
     ensures fault { IfErr result (λ error. IsUnbegunBy A.seen arch error.0 error.1) }
 {
     match ArchPart::begin(alloc, arch, &opened.shape, opened.start, &opened.pages) {
@@ -79,7 +79,7 @@ pub(crate) fn begin_on<L: Sectors, D: Sectors, A: Sectors>(
     requires runnable { IsRunnable opened.now }
     requires start { IsRunStart opened.now.start }
     requires room { IfSome arch (λ device. pages_end opened.now.shape ≤ (A.seen device).size) }
-    ensures begun { IfOk result (AreBegun A.seen opened.now arch) }
+    ensures begun { IfOk result (AreBegun A.seen A.gives opened.now arch) }
     ensures fault { IfErr result (λ error. AreUnbegunBy A.seen arch error.0 error.1) }
 {
     match arch {
@@ -98,7 +98,7 @@ fn append_rest<L: Sectors, D: Sectors, A: Sectors>(
 ) -> (Driven<L, D>, ArchPart<A>)
     requires finish { IsToFinish A.seen driven.closed.marks.flushed part }
     requires started { START_LSN ≤ part.start }
-    ensures { HasFinished L.seen L.gives A.seen driven result.0 part result.1 }
+    ensures { HasFinished L.seen L.gives A.seen A.gives driven result.0 part result.1 }
 {
     let Driven { ended, mut closed } = driven;
     let mut part = part;
@@ -113,7 +113,7 @@ pub(crate) fn finish_run<L: Sectors, D: Sectors, A: Sectors>(
 ) -> (Driven<L, D>, Option<ArchPart<A>>)
     requires finish { IfSome archive (IsToFinish A.seen driven.closed.marks.flushed) }
     requires started { IfSome archive (λ part. START_LSN ≤ part.start) }
-    ensures { HaveFinished L.seen L.gives A.seen driven result.0 archive result.1 }
+    ensures { HaveFinished L.seen L.gives A.seen A.gives driven result.0 archive result.1 }
 {
     match archive {
         Some(part) => match driven.ended {

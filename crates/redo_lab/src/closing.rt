@@ -96,7 +96,8 @@ pub(crate) fn close_run<L: Sectors, D: Sectors, A: Sectors>(
 ) -> (Ran<L, D>, Option<A>)
     requires finish { IfOk after (λ left. IfSome left.2 (IsToFinish A.seen left.0.closed.marks.flushed)) }
     requires started { IfOk after (λ left. IfSome left.2 (λ part. START_LSN ≤ part.start)) }
-    ensures closed { IfOk after (λ left. IsClosedBy L.seen L.gives A.seen start follows left.0 left.1.items left.2 result.0 result.1) }
+    ensures closed { IfOk after (λ left. IsClosedBy L.seen L.gives A.seen A.gives start follows left.0 left.1.items
+        left.2 result.0 result.1) }
     ensures unrun { IfErr after (λ error. IsUnrun error.1 error.2 error.3 result.0 result.1) }
 {
     match after {

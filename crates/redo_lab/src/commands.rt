@@ -8,10 +8,10 @@ ghost use Rattle.redo_io.specs.{SourceSeen, TakesAtMost};
 ghost use Rattle.redo_io.specs.declared.read.TheConstants.{PIECE};
 ghost use Rattle.redo_lab.specs.Asked.{IsScriptRead, calls_archive};
 ghost use Rattle.redo_lab.specs.Allowed.{HasAllowedNumbers, runs_in_threads};
-ghost use Rattle.redo_lab.specs.Call.{Unfused, unfused};
+ghost use Rattle.redo_lab.specs.Call.{IsWellCalled, Unfused, unfused};
 ghost use Rattle.redo_lab.specs.Handed.{AreOf, call_on};
-ghost use Rattle.redo_lab.specs.Ending.{EndsWith, OnlyReadsArchive, SparesArchive};
-ghost use Rattle.redo_lab.specs.Runs.{IsRanBy, SparedBy, command_with, stops_of};
+ghost use Rattle.redo_lab.specs.Ending.{EndsWith, OnlyReadsArchive, SparesArchive, WhereDone};
+ghost use Rattle.redo_lab.specs.Runs.{IsRanBy, IsUncut, SparedBy, command_with, stops_of};
 
 use crate::archiving::{hand_on, take_back};
 use crate::asked::Scripted;
@@ -59,6 +59,7 @@ fn after_run<R: Threads + Sync, L: Sectors, D: Sectors>(
         → IsScriptRead source source_now script.now → HasAllowedNumbers (command_with asked crash)
         → EndsWith (call_on L.seen L.gives D.seen D.gives words archive source source_now log store result.log result.store) (command_with asked crash) result.outcome }
     ensures spares { crash ≡ None → (archive : Unfused) → SparedBy ran.course archive → SparesArchive archive result.outcome }
+    ensures uncut { crash ≡ None → WhereDone result.outcome (IsUncut ran.course) }
     ensures entered { (log : L) (store : D) → AreOf log store ran.log ran.store → AreOf log store result.log result.store }
 {
     match crash {
@@ -83,6 +84,7 @@ fn source_by_turns<R: Threads + Sync, S: Source, L: Sectors, D: Sectors, A: Sect
         → EndsWith (call_on L.seen L.gives D.seen D.gives words (unfused A.seen arch result.1) (S.seen src.old) (S.seen src.new) log store result.0.log result.0.store)
         (command_with asked.drive asked.crash) result.0.outcome }
     ensures archive { SparesArchive (unfused A.seen arch result.1) result.0.outcome × (asked.drive.archive ≡ false → result.1 ≡ arch) }
+    ensures well { WhereDone result.0.outcome (IsWellCalled A.gives arch result.1) }
     ensures entered { AreOf log store result.0.log result.0.store }
     ensures taken { TakesAtMost (MAX_SCRIPT + PIECE) (S.seen src.old).left (S.seen src.new).left }
 {
@@ -124,6 +126,7 @@ pub(crate) fn source_in_threads<
         → EndsWith (call_on L.seen L.gives D.seen D.gives words (unfused A.seen arch result.1) (S.seen src.old) (S.seen src.new) log store result.0.log result.0.store)
         (command_with asked.drive asked.crash) result.0.outcome }
     ensures archive { SparesArchive (unfused A.seen arch result.1) result.0.outcome × (asked.drive.archive ≡ false → result.1 ≡ arch) }
+    ensures well { WhereDone result.0.outcome (IsWellCalled A.gives arch result.1) }
     ensures entered { AreOf log store result.0.log result.0.store }
     ensures taken { TakesAtMost (MAX_SCRIPT + PIECE) (S.seen src.old).left (S.seen src.new).left }
 {
@@ -170,7 +173,8 @@ pub(crate) fn done<R: Threads + Sync, S: Source, L: Sectors, D: Sectors, A: Sect
     ensures restores { (words : List (List ℕ)) (to : ℕ) → command ≡ Restore to
         → OnlyReadsArchive (call_on L.seen L.gives D.seen D.gives words (unfused A.seen arch result.1) (S.seen src.old) (S.seen src.new) log store result.0.log result.0.store) }
     ensures spares { (drive : Asked) → command ≡ Run drive → SparesArchive (unfused A.seen arch result.1) result.0.outcome }
-    ensures untouched { calls_archive (Some command) ≡ false → result.1 ≡ arch }
+    ensures archive { (calls_archive (Some command) ≡ false → result.1 ≡ arch)
+        × WhereDone result.0.outcome (IsWellCalled A.gives arch result.1) }
     ensures entered { AreOf log store result.0.log result.0.store }
     ensures taken { TakesAtMost (MAX_SCRIPT + PIECE) (S.seen src.old).left (S.seen src.new).left }
 {

@@ -4,7 +4,7 @@ ghost use Rattle.std.specs.String.{string_bytes};
 ghost use Rattle.redo_lab.specs.Asked.{calls_archive, command_of};
 ghost use Rattle.redo_lab.specs.Allowed.{HasAllowedNumbers, runs_in_threads};
 ghost use Rattle.redo_lab.specs.Ending.{IsCallOf};
-ghost use Rattle.redo_lab.specs.Call.{unfused};
+ghost use Rattle.redo_lab.specs.Call.{IsWellCalled, unfused};
 ghost use Rattle.redo_lab.specs.Handed.{AreOf, call_on};
 
 use crate::asked::{read_command, threaded};
@@ -36,7 +36,7 @@ pub fn lab_turns<R: Threads + Sync, S: Source, O: Sink, L: Sectors, D: Sectors, 
     requires by_turns { runs_in_threads command ≡ false }
     ensures call { (words : List (List ℕ)) → command_of words ≡ Some command
         → IsCallOf (call_on L.seen L.gives D.seen D.gives words (unfused A.seen arch result.arch) (S.seen src.old) (S.seen src.new) log store result.log result.store)
-        (O.seen out.old) (O.seen out.new) result.status }
+        (IsWellCalled A.gives arch result.arch) (O.seen out.old) (O.seen out.new) result.status }
     ensures untouched { calls_archive (Some command) ≡ false → result.arch ≡ arch }
     ensures entered { AreOf log store result.log result.store }
 {
@@ -66,7 +66,8 @@ pub fn lab<
     gate: &G,
 ) -> Ended<L, D, A>
     ensures call { IsCallOf (call_on L.seen L.gives D.seen D.gives (map (λ word. string_bytes word) words.now) (unfused A.seen arch result.arch) (S.seen src.old) (S.seen src.new)
-        log store result.log result.store) (O.seen out.old) (O.seen out.new) result.status }
+        log store result.log result.store) (IsWellCalled A.gives arch result.arch)
+        (O.seen out.old) (O.seen out.new) result.status }
     ensures untouched { calls_archive (command_of (map (λ word. string_bytes word) words.now)) ≡ false → result.arch ≡ arch }
     ensures entered { AreOf log store result.log result.store }
 {

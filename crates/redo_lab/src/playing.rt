@@ -8,7 +8,7 @@ ghost use Rattle.model_script.specs.declared.words.TheConstants.{MAX_FOLLOWERS};
 ghost use Rattle.redo_io.specs.{SourceSeen};
 ghost use Rattle.redo_lab.specs.Call.{IsUnfused, Unfused};
 ghost use Rattle.redo_lab.specs.Handed.{AreOf, call_on};
-ghost use Rattle.redo_lab.specs.Runs.{CommandRuns, IsGivenBack, IsRanBy, SparedBy};
+ghost use Rattle.redo_lab.specs.Runs.{AreWellCalled, CommandRuns, IsGivenBack, IsRanBy, SparedBy};
 
 use crate::closing::close_run;
 use crate::laws::laws;
@@ -79,6 +79,7 @@ pub(crate) fn by_turns_with<L: Sectors, D: Sectors, A: Sectors>(
         → IsUnfused A.seen arch result.1 archive
         → IsRanBy (call_on L.seen L.gives D.seen D.gives words archive source source_now log store) command drive.now stops script.now result.0 }
     ensures given_back { IsGivenBack A.seen (SparedBy result.0.course) arch result.1 }
+    ensures well { AreWellCalled A.gives result.0.course arch result.1 }
     ensures entered { AreOf log store result.0.log result.0.store }
 {
     laws();
@@ -149,6 +150,7 @@ pub(crate) fn in_threads<
         → IsUnfused A.seen arch result.1 archive
         → IsRanBy (call_on L.seen L.gives D.seen D.gives words archive source source_now log store) command drive.now stops script.now result.0 }
     ensures given_back { IsGivenBack A.seen (SparedBy result.0.course) arch result.1 }
+    ensures well { AreWellCalled A.gives result.0.course arch result.1 }
     ensures entered { AreOf log store result.0.log result.0.store }
 {
     laws();

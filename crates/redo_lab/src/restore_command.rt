@@ -4,8 +4,8 @@ ghost use Rattle.model_report.specs.{restored_text};
 ghost use Rattle.model_base.specs.declared.limits.TheConstants.{MAX_PAGES};
 ghost use Rattle.model_script.specs.declared.asked.Command.TheVariants.{Restore};
 ghost use Rattle.redo_io.specs.{SourceSeen};
-ghost use Rattle.redo_lab.specs.Call.{unfused};
-ghost use Rattle.redo_lab.specs.Ending.{EndsWith, OnlyReadsArchive};
+ghost use Rattle.redo_lab.specs.Call.{IsWellCalled, unfused};
+ghost use Rattle.redo_lab.specs.Ending.{EndsWith, OnlyReadsArchive, WhereDone};
 ghost use Rattle.redo_lab.specs.Handed.{AreOf, call_on};
 
 use crate::faults::unrestored;
@@ -41,6 +41,7 @@ pub(crate) fn restore_command<L: Sectors, D: Sectors, A: Sectors>(
         → EndsWith (call_on L.seen L.gives D.seen D.gives words (unfused A.seen arch result.1) source source log store result.0.log result.0.store) (Restore to) result.0.outcome }
     ensures restores { (words : List (List ℕ)) (source source_now : SourceSeen)
         → OnlyReadsArchive (call_on L.seen L.gives D.seen D.gives words (unfused A.seen arch result.1) source source_now log store result.0.log result.0.store) }
+    ensures well { WhereDone result.0.outcome (IsWellCalled A.gives arch result.1) }
     ensures entered { AreOf log store result.0.log result.0.store }
 {
     one_restore();

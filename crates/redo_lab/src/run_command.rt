@@ -6,8 +6,8 @@ ghost use Rattle.redo_io.specs.{SourceSeen};
 ghost use Rattle.redo_lab.specs.Asked.{IsScriptRead};
 ghost use Rattle.redo_lab.specs.Call.{Unfused};
 ghost use Rattle.redo_lab.specs.Handed.{AreOf, call_on};
-ghost use Rattle.redo_lab.specs.Ending.{EndsWith, SparesArchive};
-ghost use Rattle.redo_lab.specs.Runs.{IsRanBy, IsRunPrinted, SparedBy, ran_of, stops_of};
+ghost use Rattle.redo_lab.specs.Ending.{EndsWith, SparesArchive, WhereDone};
+ghost use Rattle.redo_lab.specs.Runs.{IsRanBy, IsRunPrinted, IsUncut, SparedBy, ran_of, stops_of};
 
 use crate::laws::laws;
 use crate::outcome::{Done, Outcome};
@@ -40,6 +40,7 @@ pub(crate) fn run_command<L: Sectors, D: Sectors>(
         → IsScriptRead source source_now script.now
         → EndsWith (call_on L.seen L.gives D.seen D.gives words archive source source_now log store result.log result.store) (Run asked) result.outcome }
     ensures spares { (archive : Unfused) → SparedBy ran.course archive → SparesArchive archive result.outcome }
+    ensures uncut { WhereDone result.outcome (IsUncut ran.course) }
     ensures entered { (log : L) (store : D) → AreOf log store ran.log ran.store → AreOf log store result.log result.store }
 {
     laws();

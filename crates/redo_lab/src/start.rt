@@ -10,7 +10,7 @@ ghost use Rattle.redo_lab.specs.declared.playing.Course.TheVariants as ended;
 ghost use Rattle.redo_lab.specs.Begun.{AreBegunOr, AreGivenOn, HasBegun};
 ghost use Rattle.redo_lab.specs.Call.{Unfused};
 ghost use Rattle.redo_lab.specs.Handed.{call_on};
-ghost use Rattle.redo_lab.specs.Runs.{CommandRuns, IsGivenBack, SparedBy};
+ghost use Rattle.redo_lab.specs.Runs.{AreWellCalled, CommandRuns, IsGivenBack, SparedBy};
 
 use crate::archiving::{begin_on, room_on};
 use crate::fitted::{ready, unplayed};
@@ -58,12 +58,13 @@ pub(crate) fn begin_run<L: Sectors, D: Sectors, A: Sectors>(
     requires lines { AllByRecursion IsScriptLine script.now }
     requires few { drive.now.followers ≤ MAX_FOLLOWERS }
     requires archives { is_some arch ≡ drive.now.archive }
-    ensures begun { IfOk result (HasBegun A.seen drive.now script.now arch) }
+    ensures begun { IfOk result (HasBegun A.seen A.gives drive.now script.now arch) }
     ensures ready { (words : List (List ℕ)) (archive : Unfused) (source source_now : SourceSeen) (command : Command)
         → CommandRuns source source_now command drive.now script.now → (drive.now.archive ≡ true → command ≡ Run drive.now)
         → AreBegunOr L.seen D.seen A.seen (call_on L.seen L.gives D.seen D.gives words archive source source_now log store)
         command drive.now stops script.now arch result }
     ensures given_back { IfErr result (λ left. IsGivenBack A.seen (SparedBy left.0.course) arch left.1) }
+    ensures well { IfErr result (λ left. AreWellCalled A.gives left.0.course arch left.1) }
     ensures entered { AreGivenOn log store result }
 {
     laws();

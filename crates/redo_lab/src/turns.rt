@@ -48,7 +48,8 @@ pub(crate) fn run_turns<L: Sectors, D: Sectors, A: Sectors>(
     ensures owed { IfOk result (λ left. Owes (seen_through L.seen) (CallsThrough L.seen L.gives) (seen_through D.seen) (CallsThrough D.seen D.gives)
         opened script.now left.0) }
     ensures followed { IfOk result (λ left. HaveFollowed (seen_through L.seen) (seen_through D.seen) HasTally opened script.now followers.items left.1.items left.0.closed) }
-    ensures archived { IfOk result (λ left. HaveArchived (seen_through L.seen) (seen_through D.seen) A.seen opened script.now left.0.closed (views_of left.1.items) archive left.2) }
+    ensures archived { IfOk result (λ left. HaveArchived (seen_through L.seen) (seen_through D.seen) A.seen A.gives
+        opened script.now left.0.closed (views_of left.1.items) archive left.2) }
     ensures tells { length followers.items ≡ drive.now.followers → is_some archive ≡ drive.now.archive
         → IfOk result (λ left. TellsOf false drive.now.own_writes L.seen L.gives D.seen D.gives drive.now opened script.now (views_of left.1.items) left.0) }
 {

@@ -22,10 +22,11 @@ use Rattle.redo_machine.specs.Appending.{lost_by}
 use Rattle.redo_store.specs.declared.opened.Opened.{Opened}
 
 -- AN ARCHIVER THAT HAS LOST ITS ARCHIVE did so by the error of the archive.
-module _ {L D A : Type 0} {archive : Bool} (log_seen : L → Seen) (data_seen : D → Seen) (seen : A → Seen) (run : RunOf L D)
-    (parts : Parts L D) (actors : List model.Actor) (runs : RunsWith log_seen data_seen run archive parts actors) where
+module _ {L D A : Type 0} {archive : Bool} (log_seen : L → Seen) (data_seen : D → Seen) (seen : A → Seen)
+    (gives : A → Call → A → Type 0) (run : RunOf L D) (parts : Parts L D) (actors : List model.Actor)
+    (runs : RunsWith log_seen data_seen run archive parts actors) where
   pub loses_by : (before after : Option (Part A)) (lost : Option DevError)
-      → HasComeTo log_seen data_seen seen run parts actors runs before after → lost ≡ lost_by after
+      → HasComeTo log_seen data_seen seen gives run parts actors runs before after → lost ≡ lost_by after
       → cond (is_some before) ((code : ℕ) → HasLost actors code → code ≡ append_code lost) (Unit {0})
   loses_by None after lost come is = tt
   loses_by (Some part) None lost come is = absurd come
@@ -34,15 +35,15 @@ module _ {L D A : Type 0} {archive : Bool} (log_seen : L → Seen) (data_seen : 
 
 -- WHAT A RUN LEAVES OF ITS ARCHIVE.
 module _ {L D A R : Type 0} {archive : Bool} (log_seen : L → Seen) (log_gives : L → Call → L → Type 0)
-    (data_seen : D → Seen) (data_gives : D → Call → D → Type 0) (seen : A → Seen) (stands : R → List Given → Type 0)
-    (opened : Opened L D) (script : List ScriptLine) (log_only : Bool) (followers : ℕ) (starts actors : List (Actor R))
+    (data_seen : D → Seen) (data_gives : D → Call → D → Type 0) (seen : A → Seen) (gives : A → Call → A → Type 0)
+    (stands : R → List Given → Type 0) (opened : Opened L D) (script : List ScriptLine) (log_only : Bool) (followers : ℕ) (starts actors : List (Actor R))
     (driven : Driven L D)
     (by : LeavesWith log_seen log_gives data_seen data_gives stands opened script log_only archive followers starts actors
     driven.closed) where
   pub have_archived : (before after : Option (Part A))
-      → HasComeTo log_seen data_seen seen by.run by.last (views_of actors) by.from.runs before after
+      → HasComeTo log_seen data_seen seen gives by.run by.last (views_of actors) by.from.runs before after
       → driven.closed.lost ≡ lost_by after
-      → HaveArchived log_seen data_seen seen opened script driven.closed (views_of actors) before after
+      → HaveArchived log_seen data_seen seen gives opened script driven.closed (views_of actors) before after
   have_archived None None come is = is
   have_archived None (Some later) come is = absurd come
   have_archived (Some part) None come is = absurd come

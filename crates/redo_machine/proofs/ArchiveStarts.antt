@@ -20,8 +20,10 @@ use Rattle.model_script.specs.{script_end}
 use Rattle.model_script.specs.declared.script.ScriptLine.{ScriptLine}
 use Rattle.redo_archive.specs.Part.{Part, PartArchives}
 use Rattle.redo_archiver.specs.{append_code, KeepsPace}
+use Rattle.redo_disk.specs.{Call}
 use Rattle.redo_disk.specs.Seen.{Seen}
 use Rattle.redo_disk.specs.declared.error.DevError.TheVariants.{Failed}
+use Rattle.redo_drive.proofs.CallsOn.{not_called}
 use Rattle.redo_drive.proofs.FollowersLeft.{among, starts_with}
 use Rattle.redo_drive.proofs.RunStarts.{no_log}
 use Rattle.redo_drive.specs.Archiving.{HasCome, HasComeTo, HasNoArchiver, IsBeside, StandsBeside}
@@ -51,14 +53,15 @@ no_wholes [] (w ∷ ws) none are = absurd are
 no_wholes (e ∷ es) wholes none are = absurd (cc)
 
 -- an archive that has come there stands there
-pub beside_of : {L D A : Type 0} {archive : Bool} (log_seen : L → Seen) (data_seen : D → Seen) (seen : A → Seen) (run : RunOf L D)
-    (parts : Parts L D) (actors : List model.Actor) (runs : RunsWith log_seen data_seen run archive parts actors)
-    (before after : Option (Part A)) → HasComeTo log_seen data_seen seen run parts actors runs before after
+pub beside_of : {L D A : Type 0} {archive : Bool} (log_seen : L → Seen) (data_seen : D → Seen) (seen : A → Seen)
+    (gives : A → Call → A → Type 0) (run : RunOf L D) (parts : Parts L D) (actors : List model.Actor)
+    (runs : RunsWith log_seen data_seen run archive parts actors) (before after : Option (Part A))
+    → HasComeTo log_seen data_seen seen gives run parts actors runs before after
     → IsBeside seen run.setup parts.words.words actors after
-beside_of log_seen data_seen seen run parts actors runs None None come = come
-beside_of log_seen data_seen seen run parts actors runs None (Some part) come = absurd come
-beside_of log_seen data_seen seen run parts actors runs (Some part) None come = absurd come
-beside_of log_seen data_seen seen run parts actors runs (Some part) (Some later) come = come.beside
+beside_of log_seen data_seen seen gives run parts actors runs None None come = come
+beside_of log_seen data_seen seen gives run parts actors runs None (Some part) come = absurd come
+beside_of log_seen data_seen seen gives run parts actors runs (Some part) None come = absurd come
+beside_of log_seen data_seen seen gives run parts actors runs (Some part) (Some later) come = come.beside
 
 module _ {L D A R : Type 0} (log_seen : L → Seen) (data_seen : D → Seen) (seen : A → Seen) (stands : R → List Given → Type 0)
     (opened : Opened L D) (script : List ScriptLine) (log_only archive : Bool) (followers : List (Following R))
@@ -112,7 +115,8 @@ module _ {L D A R : Type 0} (log_seen : L → Seen) (data_seen : D → Seen) (se
       ne_eqb r.number 0 (λ zero. omega arith)
 
   -- WITH ONE it stands beside its archiver.
-  module _ (archived : archive ≡ true) (part : Part A) (new : IsNewArchive seen opened script part) where
+  module _ (archived : archive ≡ true) (gives : A → Call → A → Type 0) (part : Part A)
+      (new : IsNewArchive seen opened script part) where
     abbrev front : List model.Actor
     front = seated_before opened.shape script opened.start c.log_only archive (length followers)
 
@@ -170,7 +174,7 @@ module _ {L D A R : Type 0} (log_seen : L → Seen) (data_seen : D → Seen) (se
           record { later = omega arith; most = omega arith });
     }
 
-    has_come : HasCome log_seen data_seen seen run start.parts actors begins.from.runs part part
+    has_come : HasCome log_seen data_seen seen gives run start.parts actors begins.from.runs part part
     has_come = record {
       beside = stands_there;
       same = record {
@@ -179,13 +183,15 @@ module _ {L D A R : Type 0} (log_seen : L → Seen) (data_seen : D → Seen) (se
         size = refl;
         later = omega arith;
         risen = λ failed. let z : None ≡ Some Failed = sym new.live ∙ failed in absurd (cc);
+        calls = not_called gives part.dev part.failed;
       };
       archives = λ told pages begun wholes are. subst (λ (l : List Whole). PartArchives seen pages l part)
           (sym (no_wholes begins.from.runs.running.log_ghost.log wholes empty are)) begun;
     }
 
   -- SO IT HAS COME THERE.
-  pub comes : (before : Option (Part A)) → is_some before ≡ archive → IfSome before (IsNewArchive seen opened script)
-      → HasComeTo log_seen data_seen seen run start.parts actors begins.from.runs before before
-  comes None is new = none_archives (sym is)
-  comes (Some part) is new = has_come (sym is) part new
+  pub comes : (gives : A → Call → A → Type 0) (before : Option (Part A)) → is_some before ≡ archive
+      → IfSome before (IsNewArchive seen opened script)
+      → HasComeTo log_seen data_seen seen gives run start.parts actors begins.from.runs before before
+  comes gives None is new = none_archives (sym is)
+  comes gives (Some part) is new = has_come (sym is) gives part new

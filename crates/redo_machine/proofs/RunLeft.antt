@@ -56,7 +56,7 @@ use Rattle.redo_store.specs.Part as store
 -- the invariant holds, with what the followers' receivers have got, and of which the closed run tells; and the archive has
 -- come there with them.
 pub record TurnsLead {L D A R : Type 0} (log_seen : L → Seen) (log_gives : L → Call → L → Type 0) (data_seen : D → Seen)
-    (data_gives : D → Call → D → Type 0) (arch_seen : A → Seen)
+    (data_gives : D → Call → D → Type 0) (arch_seen : A → Seen) (arch_gives : A → Call → A → Type 0)
     (stands : R → List Given → Type 0) (opened : Opened L D) (script : List ScriptLine) (turns : Turns)
     (before : Option (Part A)) (followers : List (Following R))
     (actors : List (Actor R)) (driven : Driven L D) (after : Option (Part A)) : Type 0 where
@@ -64,7 +64,7 @@ pub record TurnsLead {L D A R : Type 0} (log_seen : L → Seen) (log_gives : L �
   pub begins : BeginsWith log_seen data_seen stands opened script turns.log_only (is_some before) followers first
   pub last : Parts L D
   pub from : RunsFromWith log_seen data_seen stands begins.run (is_some before) first.actors.items last actors
-  pub come : HasComeTo log_seen data_seen arch_seen begins.run last (views_of actors) from.runs before after
+  pub come : HasComeTo log_seen data_seen arch_seen arch_gives begins.run last (views_of actors) from.runs before after
   pub lost : driven.closed.lost ≡ lost_by after
   pub ends : RunEndsAs log_seen log_gives data_seen data_gives begins.run turns.seed turns.max first.parts
       (views_of first.actors.items) driven.ended last (views_of actors)
@@ -77,13 +77,13 @@ pub record TurnsLead {L D A R : Type 0} (log_seen : L → Seen) (log_gives : L �
       (word_marks from.runs.running.shared) from.runs.running.log_ghost.log
   pub listed : ListsInOrder driven.closed.marks (views_of actors) driven.closed.history
 
-module _ {L D A R : Type 0} (log_seen : L → Seen) (log_gives : L → Call → L → Type 0) (data_seen : D → Seen)
-    (data_gives : D → Call → D → Type 0) (arch_seen : A → Seen)
+module _ {L D A R : Type 0} {arch_gives : A → Call → A → Type 0} (log_seen : L → Seen)
+    (log_gives : L → Call → L → Type 0) (data_seen : D → Seen) (data_gives : D → Call → D → Type 0) (arch_seen : A → Seen)
     (stands : R → List Given → Type 0) (opened : Opened L D) (script : List ScriptLine) (turns : Turns)
     (before : Option (Part A)) (followers : List (Following R))
     (actors : List (Actor R)) (driven : Driven L D) (after : Option (Part A))
-    (by : TurnsLead log_seen log_gives data_seen data_gives arch_seen stands opened script turns before followers actors driven
-    after) where
+    (by : TurnsLead log_seen log_gives data_seen data_gives arch_seen arch_gives stands opened script turns before
+    followers actors driven after) where
   abbrev run : RunOf L D
   run = by.begins.run
 
@@ -156,7 +156,7 @@ module _ {L D A R : Type 0} (log_seen : L → Seen) (log_gives : L → Call → 
   -- an archiver that has lost its archive did so by the error of the archive
   lost_by_archive : cond (is_some before)
       ((code : ℕ) → HasLost (views_of actors) code → code ≡ append_code driven.closed.lost) (Unit {0})
-  lost_by_archive = loses_by log_seen data_seen arch_seen by.begins.run by.last (views_of actors) by.from.runs before after
+  lost_by_archive = loses_by log_seen data_seen arch_seen arch_gives by.begins.run by.last (views_of actors) by.from.runs before after
       driven.closed.lost by.come by.lost
 
   pub leaves : LeavesWith log_seen log_gives data_seen data_gives stands opened script turns.log_only (is_some before) (length followers)
@@ -218,7 +218,8 @@ module _ {L D A R : Type 0} (log_seen : L → Seen) (log_gives : L → Call → 
       by.begins.followers
 
   -- WHAT IT LEAVES OF THE ARCHIVE.
-  pub archived : HaveArchived log_seen data_seen arch_seen opened script driven.closed (views_of actors) before after
+  pub archived : HaveArchived log_seen data_seen arch_seen arch_gives opened script driven.closed (views_of actors)
+      before after
   unfolding leaves
-  archived = have_archived log_seen log_gives data_seen data_gives arch_seen stands opened script turns.log_only
+  archived = have_archived log_seen log_gives data_seen data_gives arch_seen arch_gives stands opened script turns.log_only
       (length followers) by.first.actors.items actors driven leaves before after by.come by.lost

@@ -67,12 +67,12 @@ module _ {L D : Type 0} (log_seen : L → Seen) (log_gives : L → Call → L �
         → GoesOn run archive seed max turn first now
 
   -- the same, with what its readers got, and what it leaves
-  pub record InTurns {A R : Type 0} (arch_seen : A → Seen) (stands : R → List Given → Type 0)
-      (seed max turn draws seats : ℕ) (first now : Machine L D A R) : Type 0 where
+  pub record InTurns {A R : Type 0} (arch_seen : A → Seen) (arch_gives : A → Call → A → Type 0)
+      (stands : R → List Given → Type 0) (seed max turn draws seats : ℕ) (first now : Machine L D A R) : Type 0 where
     pub run : InRun arch_seen seed max turn draws seats first now
     pub from : (run : RunOf L D) (archive : Bool) (starts : List (Actor R)) (before : Option (Part A))
-        → ComesFrom log_seen data_seen arch_seen stands run archive starts before first
-        → ComesFrom log_seen data_seen arch_seen stands run archive starts before now
+        → ComesFrom log_seen data_seen arch_seen arch_gives stands run archive starts before first
+        → ComesFrom log_seen data_seen arch_seen arch_gives stands run archive starts before now
     pub calls : CallOnBoth log_gives data_gives first.parts now.parts
     pub entries : now.entries ≡ first.entries
 

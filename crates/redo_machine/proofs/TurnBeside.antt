@@ -12,6 +12,7 @@ use Rattle.model_logcore.specs.LogLaws.{LogLaws}
 use Rattle.model_pagecore.specs.DataLaws.{DataLaws}
 use Rattle.model_running.specs.{IsNoAppend}
 use Rattle.redo_archive.specs.Part.{Part}
+use Rattle.redo_disk.specs.{Call}
 use Rattle.redo_disk.specs.Seen.{Seen}
 use Rattle.redo_drive.proofs.ArchiveGroups.{comes_on}
 use Rattle.redo_drive.proofs.ArchiveTurns as turns
@@ -49,10 +50,11 @@ one_part x y e = cc
 no_part : {A : Type 0} (x : Part A) → ◌≡◌ {A = Option (Part A)} None (Some x) → ⊥
 no_part x e = absurd (cc)
 
-module _ {L D A R : Type 0} (log_seen : L → Seen) (data_seen : D → Seen) (seen : A → Seen) (stands : R → List Given → Type 0)
-    (run : RunOf L D) (old new : Parts L D) (actors : List (Actor R)) (seat : ℕ) (d who : Actor R) (step : Step)
+module _ {L D A R : Type 0} {gives : A → Call → A → Type 0} (log_seen : L → Seen) (data_seen : D → Seen)
+    (seen : A → Seen) (stands : R → List Given → Type 0) (run : RunOf L D) (old new : Parts L D)
+    (actors : List (Actor R)) (seat : ℕ) (d who : Actor R) (step : Step)
     (below : seat < length actors) (before after : Option (Part A))
-    (S : IsServedWith log_seen data_seen seen stands run old before (get_or actors seat d) step new after who)
+    (S : IsServedWith log_seen data_seen seen gives stands run old before (get_or actors seat d) step new after who)
     (log_laws : LogLaws (run_log_side log_seen data_seen run))
     (data_laws : DataLaws (run_data_side log_seen data_seen run)) (same : HasSamePages old new) where
   abbrev mine : Actor R
@@ -76,7 +78,7 @@ module _ {L D A R : Type 0} (log_seen : L → Seen) (data_seen : D → Seen) (se
 
   -- what the archive was served with
   served_as : (part later : Part A) → before ≡ Some part → after ≡ Some later
-      → ((r : ReaderState) × (view_of mine ≡ model.Reader r) × Appends seen r part S.served.answer later)
+      → ((r : ReaderState) × (view_of mine ≡ model.Reader r) × Appends seen gives r part S.served.answer later)
       ⊎ (IsNoAppend (next (view_of mine)) × (later ≡ part))
   served_as part later was is = ⊎_elim
       (λ h.
@@ -85,8 +87,8 @@ module _ {L D A R : Type 0} (log_seen : L → Seen) (data_seen : D → Seen) (se
       inl (
         h.archiver,
         ap view_of h.is,
-        subst (λ (p : Part A). Appends seen h.archiver part S.served.answer p) two
-            (subst (λ (p : Part A). Appends seen h.archiver p S.served.answer h.after) one h.appends),
+        subst (λ (p : Part A). Appends seen gives h.archiver part S.served.answer p) two
+            (subst (λ (p : Part A). Appends seen gives h.archiver p S.served.answer h.after) one h.appends),
       ))
       (λ z. inr (z.0, one_part later part (sym is ∙ z.1 ∙ was))) S.archives
 
@@ -120,13 +122,14 @@ module _ {L D A R : Type 0} (log_seen : L → Seen) (data_seen : D → Seen) (se
             later there (served_as part later was is)
 
     -- THE RUN THAT CAME TO THE MACHINE has come to it then.
-    pub come_then : (first : Option (Part A)) → HasComeTo log_seen data_seen seen run old (views_of actors) runs first before
-        → HasComeTo log_seen data_seen seen run new (views_of later_actors) its first after
+    pub come_then : (first : Option (Part A))
+        → HasComeTo log_seen data_seen seen gives run old (views_of actors) runs first before
+        → HasComeTo log_seen data_seen seen gives run new (views_of later_actors) its first after
     come_then first = by first before after refl refl
       where
         by : (f b a : Option (Part A)) → before ≡ b → after ≡ a
-            → HasComeTo log_seen data_seen seen run old (views_of actors) runs f b
-            → HasComeTo log_seen data_seen seen run new (views_of later_actors) its f a
+            → HasComeTo log_seen data_seen seen gives run old (views_of actors) runs f b
+            → HasComeTo log_seen data_seen seen gives run new (views_of later_actors) its f a
         by None None None was is none = still_none none
         by None (Some part) a was is come = absurd come
         by (Some f) None a was is come = absurd come

@@ -10,6 +10,7 @@ use Rattle.model_core.specs.declared.ops.Step.{Step}
 use Rattle.model_running.specs.{IsNoAppend}
 use Rattle.redo_archive.specs.Part.{Part}
 use Rattle.redo_archiver.specs.{MayAppendBlock}
+use Rattle.redo_disk.specs.{Call}
 use Rattle.redo_disk.specs.Seen.{Seen}
 use Rattle.redo_disk.specs.declared.error.DevError.{DevError}
 use Rattle.redo_drive.specs.Archiving.{Appends, HasComeTo, IsBeside}
@@ -46,27 +47,29 @@ pub record MayServeWith {L D A R : Type 0} (seen : A → Seen) (parts : Parts L 
       (answer_of (lists_of parts.lists) (is_some parts.log.failed) code mark parts.words.words (next (view_of actor)))
 
 -- THE BLOCK THAT THE ARCHIVER HAS READ WAS APPENDED, with this answer.
-pub record HasAppended {A R : Type 0} (seen : A → Seen) (old : Option (Part A)) (actor : Actor R) (answer : Answer)
-    (new : Option (Part A)) : Type 0 where
+pub record HasAppended {A R : Type 0} (seen : A → Seen) (gives : A → Call → A → Type 0) (old : Option (Part A))
+    (actor : Actor R) (answer : Answer) (new : Option (Part A)) : Type 0 where
   pub archiver : ReaderState
   pub is : ◌≡◌ {A = Actor R} actor (own.Archiver archiver)
   pub before : Part A
   pub before_is : old ≡ Some before
   pub after : Part A
   pub after_is : new ≡ Some after
-  pub appends : Appends seen archiver before answer after
+  pub appends : Appends seen gives archiver before answer after
 
 -- the archive was appended to for an actor, with this answer; or the actor asked for something else, and the archive is the same
-abbrev pub ServesArchive : {A R : Type 0} → (A → Seen) → Option (Part A) → Actor R → Answer → Option (Part A) → Type 0
-ServesArchive seen old actor answer new =
-    HasAppended seen old actor answer new ⊎ (IsNoAppend (next (view_of actor)) × (new ≡ old))
+abbrev pub ServesArchive : {A R : Type 0} → (A → Seen) → (A → Call → A → Type 0) → Option (Part A) → Actor R → Answer
+    → Option (Part A) → Type 0
+ServesArchive seen gives old actor answer new =
+    HasAppended seen gives old actor answer new ⊎ (IsNoAppend (next (view_of actor)) × (new ≡ old))
 
 -- An actor has had its turn beside an archive.
 pub record IsServedWith {L D A R : Type 0} (log_seen : L → Seen) (data_seen : D → Seen) (arch_seen : A → Seen)
-    (stands : R → List Given → Type 0) (run : RunOf L D) (old : Parts L D) (before : Option (Part A)) (actor : Actor R) (step : Step)
+    (arch_gives : A → Call → A → Type 0) (stands : R → List Given → Type 0) (run : RunOf L D) (old : Parts L D)
+    (before : Option (Part A)) (actor : Actor R) (step : Step)
     (new : Parts L D) (archive : Option (Part A)) (after : Actor R) : Type 0 where
   pub served : IsServed log_seen data_seen stands run old actor step new after
-  pub archives : ServesArchive arch_seen before actor served.answer archive
+  pub archives : ServesArchive arch_seen arch_gives before actor served.answer archive
 
 -- what a call of the archive answered that failed, if there is one
 abbrev pub lost_by : {A : Type 0} → Option (Part A) → Option DevError
@@ -87,7 +90,9 @@ pub record IsOnRun {L D A R : Type 0} (log_seen : L → Seen) (data_seen : D →
 
 -- The run that began with the first of these actors, and with this archive, has come to this machine.
 pub record ComesFrom {L D A R : Type 0} (log_seen : L → Seen) (data_seen : D → Seen) (arch_seen : A → Seen)
-    (stands : R → List Given → Type 0) (run : RunOf L D) (archive : Bool) (starts : List (Actor R)) (before : Option (Part A))
+    (arch_gives : A → Call → A → Type 0) (stands : R → List Given → Type 0) (run : RunOf L D) (archive : Bool)
+    (starts : List (Actor R)) (before : Option (Part A))
     (machine : Machine L D A R) : Type 0 where
   pub from : RunsFromWith log_seen data_seen stands run archive starts machine.parts machine.actors.items
-  pub come : HasComeTo log_seen data_seen arch_seen run machine.parts (views_of machine.actors.items) from.runs before machine.archive
+  pub come : HasComeTo log_seen data_seen arch_seen arch_gives run machine.parts (views_of machine.actors.items)
+      from.runs before machine.archive

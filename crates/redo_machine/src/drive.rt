@@ -46,7 +46,8 @@ pub fn run_by_turns<L: Sectors, D: Sectors, A: Sectors, R: Receiver + Drop>(
     ensures owed { IfOk result (λ left. Owes L.seen L.gives D.seen D.gives opened script.now left.0) }
     ensures turns { IfOk result (λ left. RunsByTurns L.seen L.gives D.seen D.gives false opened script.now turns.now (is_some archive) (length followers.items) (views_of left.1.items) left.0) }
     ensures followed { IfOk result (λ left. HaveFollowed L.seen D.seen R.stands_for opened script.now followers.items left.1.items left.0.closed) }
-    ensures archived { IfOk result (λ left. HaveArchived L.seen D.seen A.seen opened script.now left.0.closed (views_of left.1.items) archive left.2) }
+    ensures archived { IfOk result (λ left. HaveArchived L.seen D.seen A.seen A.gives opened script.now left.0.closed
+        (views_of left.1.items) archive left.2) }
 {
     let mut machine = Machine::new(alloc, opened, script, turns.log_only, archive, followers)?;
     let ended = machine.run(turns.seed, turns.max);

@@ -37,8 +37,8 @@ impl<L: Sectors, D: Sectors, A: Sectors, R: Receiver> Machine<L, D, A, R> {
         requires { IsOnRun L.seen D.seen A.seen self.old }
         ensures on_run { IsOnRun L.seen D.seen A.seen self.new }
         ensures from { (run : RunOf L D) (archive : Bool) (starts : List (TheActor R)) (before : Option (Part A))
-            → ComesFrom L.seen D.seen A.seen R.stands_for run archive starts before self.old
-            → ComesFrom L.seen D.seen A.seen R.stands_for run archive starts before self.new }
+            → ComesFrom L.seen D.seen A.seen A.gives R.stands_for run archive starts before self.old
+            → ComesFrom L.seen D.seen A.seen A.gives R.stands_for run archive starts before self.new }
         ensures ends { (run : RunOf L D) (archive : Bool) → RunsWith L.seen D.seen run archive self.old.parts (views_of self.old.actors.items)
             → RunEndsAs L.seen L.gives D.seen D.gives run seed max self.old.parts (views_of self.old.actors.items) result self.new.parts (views_of self.new.actors.items) }
         ensures calls { CallOnBoth L.gives D.gives self.old.parts self.new.parts }

@@ -92,7 +92,7 @@ fn append<A: Sectors, R: Receiver>(
     requires asks { next (view_of actor.now) ≡ op.Append mark }
     requires may { MayAppendTo A.seen archive.old mark }
     requires archiver { IsArchiver actor.now }
-    ensures { HasAppended A.seen archive.old actor.now result archive.new }
+    ensures { HasAppended A.seen A.gives archive.old actor.now result archive.new }
 {
     archiver_appends::<A>();
     let Actor::Archiver(archiver) = actor else {
@@ -113,7 +113,8 @@ pub fn serve_with<L: Sectors, D: Sectors, A: Sectors, R: Receiver>(
     requires { MayServeWith A.seen parts.old archive.old actor.old }
     ensures pages { HasSamePages parts.old parts.new }
     ensures served { (run : RunOf L D)
-        → IsServedWith L.seen D.seen A.seen R.stands_for run parts.old archive.old actor.old result parts.new archive.new actor.new }
+        → IsServedWith L.seen D.seen A.seen A.gives R.stands_for run parts.old archive.old actor.old result parts.new
+        archive.new actor.new }
     ensures asked { AskOfBoth L.gives D.gives (lent (view_of actor.old)) (next (view_of actor.old)) parts.old parts.new }
     ensures calls { CallOnBoth L.gives D.gives parts.old parts.new }
 {
@@ -143,8 +144,8 @@ impl<L: Sectors, D: Sectors, A: Sectors, R: Receiver> Machine<L, D, A, R> {
             → TakesTurn L.seen D.seen run self.old.parts (views_of self.old.actors.items) seat result self.new.parts (views_of self.new.actors.items)
             × RunsWith L.seen D.seen run archive self.new.parts (views_of self.new.actors.items) }
         ensures from { (run : RunOf L D) (archive : Bool) (starts : List (TheActor R)) (before : Option (Part A))
-            → ComesFrom L.seen D.seen A.seen R.stands_for run archive starts before self.old
-            → ComesFrom L.seen D.seen A.seen R.stands_for run archive starts before self.new }
+            → ComesFrom L.seen D.seen A.seen A.gives R.stands_for run archive starts before self.old
+            → ComesFrom L.seen D.seen A.seen A.gives R.stands_for run archive starts before self.new }
         ensures cause { (run : RunOf L D) (archive : Bool) (code : ℕ) → RunsWith L.seen D.seen run archive self.old.parts (views_of self.old.actors.items)
             → result ≡ Step.Failed code
             → FailedHasCause L.seen D.seen run self.new.parts ⊎ HasLost (views_of self.new.actors.items) (code_in self.new.parts) }

@@ -11,6 +11,7 @@ use Rattle.model_own.specs.OwnWrites.{LogWork, OwnUser}
 use Rattle.model_ownrun.specs.OwnRunning.{Errands}
 use Rattle.redo_archive.specs.Part.{Part}
 use Rattle.redo_archiver.specs.{KeepsPace}
+use Rattle.redo_disk.specs.{Call}
 use Rattle.redo_disk.specs.Seen.{Seen}
 use Rattle.redo_drive.proofs.Viewed.{views_at}
 use Rattle.redo_drive.specs.Archiving.{HasComeTo}
@@ -45,12 +46,13 @@ got_by_none stands None groups = tt
 got_by_none stands (Some f) groups = tt
 
 module _ {L D X R : Type 0} (log_seen : L → Seen) (data_seen : D → Seen) (seen : X → Seen)
-    (stands : R → List Given → Type 0) (run : RunOf L D) (archive : Bool) (starts : List (Actor R))
+    (gives : X → Call → X → Type 0) (stands : R → List Given → Type 0) (run : RunOf L D) (archive : Bool)
+    (starts : List (Actor R))
     (first : Option (Part X)) (parts : Parts L D) (actors : List (Actor R)) (part : Option (Part X)) where
   -- the run that began with the first of these actors and with this archive has come to these
   abbrev pub HasComeWith : Type 0
   HasComeWith = (F : RunsFromWith log_seen data_seen stands run archive starts parts actors)
-      × HasComeTo log_seen data_seen seen run parts (views_of actors) F.runs first part
+      × HasComeTo log_seen data_seen seen gives run parts (views_of actors) F.runs first part
 
   -- the same, by a list of the actors as the definitions see them
   record ComesOver (views : List model.Actor) : Type 0 where
@@ -61,7 +63,7 @@ module _ {L D X R : Type 0} (log_seen : L → Seen) (data_seen : D → Seen) (se
     got : (run_log_side log_seen data_seen run).Tells parts.log
         → (seat : ℕ) (a b : Actor R) → get_elem? starts seat ≡ some a → get_elem? actors seat ≡ some b
         → HasGot stands (follower_of a) (groups_of (view_of b) runs.running.log_ghost.log) (follower_of b)
-    come : HasComeTo log_seen data_seen seen run parts views runs first part
+    come : HasComeTo log_seen data_seen seen gives run parts views runs first part
 
   over : HasComeWith → ComesOver (views_of actors)
   over C = let F = C.0 in record { runs = F.runs; count = F.count; same = F.same; got = F.got; come = C.1 }
@@ -94,7 +96,8 @@ module _ {L D R : Type 0} (log_seen : L → Seen) (data_seen : D → Seen) (run 
       (λ none. let z : ◌≡◌ {A = Option (Following R)} (Some f) None = none.1 in absurd (cc))
       (λ is. are j f (s.1 ∙ ap some (sym is))) s.2
 
-  module _ {X : Type 0} {archive : Bool} (seen : X → Seen) (stands : R → List Given → Type 0)
+  module _ {X : Type 0} {archive : Bool} (seen : X → Seen) (gives : X → Call → X → Type 0)
+      (stands : R → List Given → Type 0)
       (law : (limit flushed more : ℕ) (r : ReaderState) (part : Part X) → flushed ≤ more → more ≤ limit
       → KeepsPace seen limit flushed r part → KeepsPace seen limit more r part)
       (errands : Errands (run_log_side log_seen data_seen run) old.log users work)
@@ -102,7 +105,8 @@ module _ {L D R : Type 0} (log_seen : L → Seen) (data_seen : D → Seen) (run 
       → OwnRunsWith log_seen data_seen run archive new left_held)
       (starts : List (Actor R)) (first part : Option (Part X)) where
     abbrev Over : Parts L D → List (Actor R) → List model.Actor → Type 0
-    Over parts actors views = ComesOver log_seen data_seen seen stands run archive starts first parts actors part views
+    Over parts actors views =
+        ComesOver log_seen data_seen seen gives stands run archive starts first parts actors part views
 
     goes_to : Over old (crew users work others) (actors_of held) → Over new now (actors_of left_held)
     goes_to F = record {
@@ -123,7 +127,7 @@ module _ {L D R : Type 0} (log_seen : L → Seen) (data_seen : D → Seen) (run 
           (F.got (earlier told) j a s.0 began s.1)))
           s.2;
       come = come_user log_seen data_seen run old new users work left others seat who then step at served before ran seen law
-          first part F.come;
+          gives first part F.come;
     }
       where
         before : OwnRunsWith log_seen data_seen run archive old held
@@ -147,18 +151,19 @@ module _ {L D R : Type 0} (log_seen : L → Seen) (data_seen : D → Seen) (run 
             ∙ views_at (crew users work others) j a there)
 
     -- THE RUN COMES TO IT AGAIN.
-    pub user_comes : HasComeWith log_seen data_seen seen stands run archive starts first old (crew users work others) part
-        → HasComeWith log_seen data_seen seen stands run archive starts first new now part
-    user_comes C = come_with log_seen data_seen seen stands run archive starts first new now part
+    pub user_comes :
+        HasComeWith log_seen data_seen seen gives stands run archive starts first old (crew users work others) part
+        → HasComeWith log_seen data_seen seen gives stands run archive starts first new now part
+    user_comes C = come_with log_seen data_seen seen gives stands run archive starts first new now part
         (subst (Over new now) (sym (crew_views left (set users seat then) others))
         (goes_to (subst (Over old (crew users work others)) (crew_views work users others)
-        (over log_seen data_seen seen stands run archive starts first old (crew users work others) part C))))
+        (over log_seen data_seen seen gives stands run archive starts first old (crew users work others) part C))))
 
 -- where it has come the invariant holds
-pub runs_there : {L D X R : Type 0} (log_seen : L → Seen) (data_seen : D → Seen) (seen : X → Seen)
-    (stands : R → List Given → Type 0) (run : RunOf L D) (archive : Bool) (starts : List (Actor R))
+pub runs_there : {L D X R : Type 0} {gives : X → Call → X → Type 0} (log_seen : L → Seen) (data_seen : D → Seen)
+    (seen : X → Seen) (stands : R → List Given → Type 0) (run : RunOf L D) (archive : Bool) (starts : List (Actor R))
     (first : Option (Part X)) (m : OwnMachine L D X R)
-    → OwnComesFrom log_seen data_seen seen stands run archive starts first m
+    → OwnComesFrom log_seen data_seen seen gives stands run archive starts first m
     → OwnRunsWith log_seen data_seen run archive m.parts (seats_of m)
 runs_there log_seen data_seen seen stands run archive starts first m C = record {
   runs = subst (λ (l : List model.Actor). RunsWith log_seen data_seen run archive m.parts l)

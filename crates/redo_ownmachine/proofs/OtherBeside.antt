@@ -8,6 +8,7 @@ use Rattle.model_core.specs.declared.ops.Step.{Step}
 use Rattle.model_own.specs.OwnWrites.{LogWork, OwnUser}
 use Rattle.redo_archive.specs.Part.{Part}
 use Rattle.redo_archiver.specs.{KeepsPace, MayAppendBlock}
+use Rattle.redo_disk.specs.{Call}
 use Rattle.redo_disk.specs.Seen.{Seen}
 use Rattle.redo_drive.proofs.TurnsOf.{runs_from}
 use Rattle.redo_drive.proofs.Viewed.{own_at}
@@ -63,11 +64,12 @@ module _ {R : Type 0} (users : List OwnUser) (work : LogWork) (actors : List (Ac
         (get_or (crew users work actors) (behind users j) d) (own_at (crew users work actors) (behind users j) d in_crew)
         numbered part (crew_beside part beside))
 
-module _ {L D X R : Type 0} (log_seen : L → Seen) (data_seen : D → Seen) (seen : X → Seen)
-    (stands : R → List Given → Type 0) (run : RunOf L D) (old new : Parts L D) (users : List OwnUser) (work : LogWork)
+module _ {L D X R : Type 0} {gives : X → Call → X → Type 0} (log_seen : L → Seen) (data_seen : D → Seen)
+    (seen : X → Seen) (stands : R → List Given → Type 0) (run : RunOf L D) (old new : Parts L D) (users : List OwnUser)
+    (work : LogWork)
     (actors : List (Actor R)) (seat j : ℕ) (d then : Actor R) (step : Step) (past : length users ≤ seat)
     (place : j ≡ seat - length users) (below : j < length actors) (before after : Option (Part X))
-    (served : IsServedWith log_seen data_seen seen stands run old before (get_or actors j d) step new after then)
+    (served : IsServedWith log_seen data_seen seen gives stands run old before (get_or actors j d) step new after then)
     (same : HasSamePages old new) where
   abbrev crew_now : List (Actor R)
   crew_now = crew users work actors
@@ -75,10 +77,10 @@ module _ {L D X R : Type 0} (log_seen : L → Seen) (data_seen : D → Seen) (se
   its_place : behind users j < length crew_now
   its_place = in_crew users work actors seat j past place below
 
-  in_its_seat : IsServedWith log_seen data_seen seen stands run old before (get_or crew_now (behind users j) d) step new
-      after then
+  in_its_seat : IsServedWith log_seen data_seen seen gives stands run old before (get_or crew_now (behind users j) d)
+      step new after then
   in_its_seat = subst
-      (λ (z : Actor R). IsServedWith log_seen data_seen seen stands run old before z step new after then)
+      (λ (z : Actor R). IsServedWith log_seen data_seen seen gives stands run old before z step new after then)
       (sym (crew_get work users actors j d)) served
 
   put : ◌≡◌ {A = List (Actor R)} (set crew_now (behind users j) then) (crew users work (set actors j then))
@@ -110,10 +112,12 @@ module _ {L D X R : Type 0} (log_seen : L → Seen) (data_seen : D → Seen) (se
 
   -- THE RUN THAT CAME TO THE MACHINE has come to it then.
   pub come_other : (archive : Bool) (starts : List (Actor R)) (first : Option (Part X))
-      → HasComeWith log_seen data_seen seen stands run archive starts first old crew_now before
-      → HasComeWith log_seen data_seen seen stands run archive starts first new (crew users work (set actors j then)) after
+      → HasComeWith log_seen data_seen seen gives stands run archive starts first old crew_now before
+      → HasComeWith log_seen data_seen seen gives stands run archive starts first new
+      (crew users work (set actors j then)) after
   come_other archive starts first C = subst
-      (λ (l : List (Actor R)). HasComeWith log_seen data_seen seen stands run archive starts first new l after) put (
+      (λ (l : List (Actor R)). HasComeWith log_seen data_seen seen gives stands run archive starts first new l after)
+      put (
         runs_from log_seen data_seen stands run old new crew_now (behind users j) d then step its_place in_its_seat.served
             (its_log_laws log_seen data_seen run) (its_data_laws log_seen data_seen run) same starts C.0,
         turned.come_then log_seen data_seen seen stands run old new crew_now (behind users j) d then step its_place before

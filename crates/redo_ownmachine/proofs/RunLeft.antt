@@ -88,14 +88,15 @@ module _ {L D : Type 0} (log_seen : L → Seen) (data_seen : D → Seen) (run : 
 -- invariant holds, with what the followers' receivers have got and with the archive, and of which the closed run tells.
 pub record OwnTurnsLead {L D A R : Type 0} (log_seen : L → Seen) (log_gives : L → Call → L → Type 0)
     (data_seen : D → Seen) (data_gives : D → Call → D → Type 0) (arch_seen : A → Seen)
-    (stands : R → List Given → Type 0) (opened : Opened L D) (script : List ScriptLine) (turns : Turns)
-    (before : Option (Part A)) (followers : List (Following R)) (actors : List (Actor R)) (driven : Driven L D) : Type 0 where
+    (arch_gives : A → Call → A → Type 0) (stands : R → List Given → Type 0) (opened : Opened L D)
+    (script : List ScriptLine) (turns : Turns) (before : Option (Part A)) (followers : List (Following R))
+    (actors : List (Actor R)) (driven : Driven L D) : Type 0 where
   pub first : OwnMachine L D A R
   pub start : OwnBeginsRun log_seen data_seen stands opened script turns.log_only (is_some before) followers first
   pub last : OwnMachine L D A R
   pub actors_are : ◌≡◌ {A = List (Actor R)} actors (crew_of last)
-  pub comes : OwnComesFrom log_seen data_seen arch_seen stands start.begins.run (is_some before) start.start.actors.items
-      before last
+  pub comes : OwnComesFrom log_seen data_seen arch_seen arch_gives stands start.begins.run (is_some before)
+      start.start.actors.items before last
   pub lost : driven.closed.lost ≡ lost_by last.archive
   pub ends : OwnRunEndsAs log_seen log_gives data_seen data_gives start.begins.run turns.seed turns.max first.parts
       (seats_of first) driven.ended last.parts (seats_of last)
@@ -108,12 +109,13 @@ pub record OwnTurnsLead {L D A R : Type 0} (log_seen : L → Seen) (log_gives : 
       (word_marks comes.from.runs.running.shared) comes.from.runs.running.log_ghost.log
   pub listed : ListsInOrder driven.closed.marks (views_of (crew_of last)) driven.closed.history
 
-module _ {L D A R : Type 0} (log_seen : L → Seen) (log_gives : L → Call → L → Type 0) (data_seen : D → Seen)
-    (data_gives : D → Call → D → Type 0) (arch_seen : A → Seen) (stands : R → List Given → Type 0)
-    (opened : Opened L D) (script : List ScriptLine) (turns : Turns) (before : Option (Part A))
+module _ {L D A R : Type 0} {arch_gives : A → Call → A → Type 0} (log_seen : L → Seen)
+    (log_gives : L → Call → L → Type 0) (data_seen : D → Seen) (data_gives : D → Call → D → Type 0)
+    (arch_seen : A → Seen) (stands : R → List Given → Type 0) (opened : Opened L D) (script : List ScriptLine)
+    (turns : Turns) (before : Option (Part A))
     (followers : List (Following R)) (actors : List (Actor R)) (driven : Driven L D)
-    (by : OwnTurnsLead log_seen log_gives data_seen data_gives arch_seen stands opened script turns before followers actors
-    driven) where
+    (by : OwnTurnsLead log_seen log_gives data_seen data_gives arch_seen arch_gives stands opened script turns before
+    followers actors driven) where
   abbrev run : RunOf L D
   run = by.start.begins.run
 
@@ -221,7 +223,7 @@ module _ {L D A R : Type 0} (log_seen : L → Seen) (log_gives : L → Call → 
     marks = by.marks;
     code = by.code;
     history = by.history;
-    lost = loses_by log_seen data_seen arch_seen run by.last.parts (views_of ending) by.comes.from.runs before
+    lost = loses_by log_seen data_seen arch_seen arch_gives run by.last.parts (views_of ending) by.comes.from.runs before
         by.last.archive driven.closed.lost by.comes.come by.lost;
   }
 
@@ -264,10 +266,10 @@ module _ {L D A R : Type 0} (log_seen : L → Seen) (log_gives : L → Call → 
       by.start.begins.followers)
 
   -- WHAT IT LEAVES OF THE ARCHIVE.
-  pub archived : HaveArchived log_seen data_seen arch_seen opened script driven.closed (views_of actors) before
-      by.last.archive
+  pub archived : HaveArchived log_seen data_seen arch_seen arch_gives opened script driven.closed (views_of actors)
+      before by.last.archive
   unfolding leaves
-  archived = subst (λ (l : List (Actor R)). HaveArchived log_seen data_seen arch_seen opened script driven.closed
-      (views_of l) before by.last.archive) (sym by.actors_are)
-      (have_archived log_seen log_gives data_seen data_gives arch_seen stands opened script turns.log_only
+  archived = subst (λ (l : List (Actor R)). HaveArchived log_seen data_seen arch_seen arch_gives opened script
+      driven.closed (views_of l) before by.last.archive) (sym by.actors_are)
+      (have_archived log_seen log_gives data_seen data_gives arch_seen arch_gives stands opened script turns.log_only
       (length followers) starts ending driven leaves before by.last.archive by.comes.come by.lost)

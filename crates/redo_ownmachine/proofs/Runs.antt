@@ -49,12 +49,12 @@ module _ {L D : Type 0} (log_seen : L → Seen) (log_gives : L → Call → L �
           → OwnGoesOn run archive seed max turn first now
 
     -- the same, with what its followers got, with its archive, and with what it leaves
-    pub record InOwnTurns {R : Type 0} (stands : R → List Given → Type 0) (seed max turn draws seats : ℕ)
-        (first now : OwnMachine L D A R) : Type 0 where
+    pub record InOwnTurns {R : Type 0} (arch_gives : A → Call → A → Type 0) (stands : R → List Given → Type 0)
+        (seed max turn draws seats : ℕ) (first now : OwnMachine L D A R) : Type 0 where
       pub run : InOwnRun seed max turn draws seats first now
       pub from : (run : RunOf L D) (archive : Bool) (starts : List (Actor R)) (before : Option (Part A))
-          → OwnComesFrom log_seen data_seen arch_seen stands run archive starts before first
-          → OwnComesFrom log_seen data_seen arch_seen stands run archive starts before now
+          → OwnComesFrom log_seen data_seen arch_seen arch_gives stands run archive starts before first
+          → OwnComesFrom log_seen data_seen arch_seen arch_gives stands run archive starts before now
       pub calls : CallOnBoth log_gives data_gives first.parts now.parts
       pub stay : HasSameSeats first now
 

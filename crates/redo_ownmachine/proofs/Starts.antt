@@ -7,6 +7,7 @@ use Rattle.model_core.specs.{Given}
 use Rattle.model_report.specs.declared.entry.Entry.{Entry}
 use Rattle.model_script.specs.declared.script.ScriptLine.{ScriptLine}
 use Rattle.redo_archive.specs.Part.{Part}
+use Rattle.redo_disk.specs.{Call}
 use Rattle.redo_disk.specs.Seen.{Seen}
 use Rattle.redo_drive.specs.Archiving.{IsBeside}
 use Rattle.redo_drive.specs.Startable.{AreNewFollowers, IsNewArchive, MayBegin}
@@ -25,14 +26,15 @@ use Rattle.redo_ownmachine.specs.declared.machine.OwnMachine.{OwnMachine}
 use Rattle.redo_store.specs.declared.opened.Opened.{Opened}
 
 module _ {L D A R : Type 0} (log_seen : L → Seen) (data_seen : D → Seen) (seen : A → Seen)
-    (stands : R → List Given → Type 0) (opened : Opened L D) (script : List ScriptLine) (log_only : Bool)
+    (gives : A → Call → A → Type 0) (stands : R → List Given → Type 0) (opened : Opened L D) (script : List ScriptLine)
+    (log_only : Bool)
     (before : Option (Part A)) (followers : List (Following R)) (m : OwnMachine L D A R)
     (B : OwnBeginsRun log_seen data_seen stands opened script log_only (is_some before) followers m)
     (may : MayBegin opened script log_only) (archived : IfSome before (IsNewArchive seen opened script))
     (is : m.archive ≡ before) where
   abbrev Has : Parts L D → List (Actor R) → Option (Part A) → Type 0
-  Has parts actors part = HasComeWith log_seen data_seen seen stands B.begins.run (is_some before) B.start.actors.items
-      before parts actors part
+  Has parts actors part = HasComeWith log_seen data_seen seen gives stands B.begins.run (is_some before)
+      B.start.actors.items before parts actors part
 
   came : Has m.parts (crew_of m) m.archive
   came = subst (λ (p : Parts L D). Has p (crew_of m) m.archive) (sym B.parts)
@@ -40,11 +42,12 @@ module _ {L D A R : Type 0} (log_seen : L → Seen) (data_seen : D → Seen) (se
       (subst (λ (a : Option (Part A)). Has B.start.parts B.start.actors.items a) (sym is) (
         B.begins.from,
         starts.comes log_seen data_seen seen stands opened script log_only (is_some before) followers B.start B.begins may
-            before refl archived,
+            gives before refl archived,
       )))
 
   -- SO THE RUN HAS COME TO THE MACHINE.
-  pub from_start : OwnComesFrom log_seen data_seen seen stands B.begins.run (is_some before) B.start.actors.items before m
+  pub from_start : OwnComesFrom log_seen data_seen seen gives stands B.begins.run (is_some before)
+      B.start.actors.items before m
   from_start = let C = came in record { from = C.0; errands = B.runs.errands; come = C.1 }
 
   pub on_its_run : AreNewFollowers opened.start followers → OwnIsOnRun log_seen data_seen seen m
@@ -54,7 +57,7 @@ module _ {L D A R : Type 0} (log_seen : L → Seen) (data_seen : D → Seen) (se
         (sym is) B.runs;
     beside = subst (λ (l : List model.Actor). IsBeside seen B.begins.run.setup m.parts.words.words l m.archive)
         (crew_views m.work m.users.items m.others.items)
-        (let C = came in starts.beside_of log_seen data_seen seen B.begins.run m.parts (views_of (crew_of m)) C.0.runs before
+        (let C = came in starts.beside_of log_seen data_seen seen gives B.begins.run m.parts (views_of (crew_of m)) C.0.runs before
         m.archive C.1);
     numbered = subst AreNumbered (sym B.crew) (starts.numbered log_seen data_seen seen stands opened script log_only
         (is_some before) followers B.start B.begins may new);

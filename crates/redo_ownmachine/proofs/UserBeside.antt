@@ -26,6 +26,7 @@ use Rattle.model_running.specs.Histories.{AreWholesOf}
 use Rattle.redo_archive.specs.Part.{Part, PartArchives}
 use Rattle.redo_archiver.proofs.Longer.{part-longer}
 use Rattle.redo_archiver.specs.{KeepsPace}
+use Rattle.redo_disk.specs.{Call}
 use Rattle.redo_disk.specs.Seen.{Seen}
 use Rattle.redo_drive.proofs.ArchiveGroups.{front_of}
 use Rattle.redo_drive.proofs.ArchiveTurns.{flushed_reserved}
@@ -176,13 +177,13 @@ module _ {L D R : Type 0} {archive : Bool} (log_seen : L → Seen) (data_seen : 
     beside_user (Some part) S = stands part S
 
     -- THE RUN THAT CAME TO THE MACHINE has come to it then.
-    pub come_user : (first part : Option (Part X))
-        → HasComeTo log_seen data_seen seen run old (actors_of seats) before.runs first part
-        → HasComeTo log_seen data_seen seen run new (actors_of after) later.runs first part
-    come_user None None none = λ j r there. none j r (was_there j r there)
-    come_user None (Some part) come = absurd come
-    come_user (Some first) None come = absurd come
-    come_user (Some first) (Some part) C = record {
+    pub come_user : (gives : X → Call → X → Type 0) (first part : Option (Part X))
+        → HasComeTo log_seen data_seen seen gives run old (actors_of seats) before.runs first part
+        → HasComeTo log_seen data_seen seen gives run new (actors_of after) later.runs first part
+    come_user gives None None none = λ j r there. none j r (was_there j r there)
+    come_user gives None (Some part) come = absurd come
+    come_user gives (Some first) None come = absurd come
+    come_user gives (Some first) (Some part) C = record {
       beside = stands part C.beside;
       same = C.same;
       archives = λ told pages begun wholes are.

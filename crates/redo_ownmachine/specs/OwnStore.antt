@@ -45,12 +45,12 @@ pub record OwnIsOnRun {L D A R : Type 0} (log_seen : L → Seen) (data_seen : D 
 -- The run that began with the first of these actors, and with this archive, has come to the machine, with what
 -- followers' receivers have got.
 pub record OwnComesFrom {L D A R : Type 0} (log_seen : L → Seen) (data_seen : D → Seen) (arch_seen : A → Seen)
-    (stands : R → List Given → Type 0) (run : RunOf L D) (archive : Bool) (starts : List (Actor R))
-    (before : Option (Part A)) (machine : OwnMachine L D A R) : Type 0 where
+    (arch_gives : A → Call → A → Type 0) (stands : R → List Given → Type 0) (run : RunOf L D) (archive : Bool)
+    (starts : List (Actor R)) (before : Option (Part A)) (machine : OwnMachine L D A R) : Type 0 where
   pub from : RunsFromWith log_seen data_seen stands run archive starts machine.parts (crew_of machine)
   pub errands : Errands (run_log_side log_seen data_seen run) machine.parts.log machine.users.items machine.work
-  pub come : HasComeTo log_seen data_seen arch_seen run machine.parts (views_of (crew_of machine)) from.runs before
-      machine.archive
+  pub come : HasComeTo log_seen data_seen arch_seen arch_gives run machine.parts (views_of (crew_of machine)) from.runs
+      before machine.archive
 
 module _ {L D : Type 0} (log_seen : L → Seen) (log_gives : L → Call → L → Type 0) (data_seen : D → Seen)
     (data_gives : D → Call → D → Type 0) (run : RunOf L D) where

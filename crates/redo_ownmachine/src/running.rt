@@ -22,8 +22,8 @@ impl<L: Sectors, D: Sectors, A: Sectors, R: Receiver> OwnMachine<L, D, A, R> {
         requires { OwnIsOnRun L.seen D.seen A.seen self.old }
         ensures on_run { OwnIsOnRun L.seen D.seen A.seen self.new }
         ensures from { (run : RunOf L D) (archive : Bool) (starts : List (TheActor R)) (before : Option (Part A))
-            → OwnComesFrom L.seen D.seen A.seen R.stands_for run archive starts before self.old
-            → OwnComesFrom L.seen D.seen A.seen R.stands_for run archive starts before self.new }
+            → OwnComesFrom L.seen D.seen A.seen A.gives R.stands_for run archive starts before self.old
+            → OwnComesFrom L.seen D.seen A.seen A.gives R.stands_for run archive starts before self.new }
         ensures ends { (run : RunOf L D) (archive : Bool) → OwnRunsWith L.seen D.seen run archive self.old.parts (seats_of self.old)
             → OwnRunEndsAs L.seen L.gives D.seen D.gives run seed max self.old.parts (seats_of self.old) result self.new.parts (seats_of self.new) }
         ensures calls { CallOnBoth L.gives D.gives self.old.parts self.new.parts }

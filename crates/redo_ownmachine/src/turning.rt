@@ -55,8 +55,8 @@ impl<L: Sectors, D: Sectors, A: Sectors, R: Receiver> OwnMachine<L, D, A, R> {
             → TakesOwnTurn L.seen L.gives D.seen D.gives run self.old.parts (seats_of self.old) seat result self.new.parts (seats_of self.new)
             × OwnRunsWith L.seen D.seen run archive self.new.parts (seats_of self.new) }
         ensures from { (run : RunOf L D) (archive : Bool) (starts : List (TheActor R)) (before : Option (Part A))
-            → OwnComesFrom L.seen D.seen A.seen R.stands_for run archive starts before self.old
-            → OwnComesFrom L.seen D.seen A.seen R.stands_for run archive starts before self.new }
+            → OwnComesFrom L.seen D.seen A.seen A.gives R.stands_for run archive starts before self.old
+            → OwnComesFrom L.seen D.seen A.seen A.gives R.stands_for run archive starts before self.new }
         ensures cause { (run : RunOf L D) (archive : Bool) (code : ℕ) → OwnRunsWith L.seen D.seen run archive self.old.parts (seats_of self.old)
             → result ≡ Step.Failed code
             → FailedHasCause L.seen D.seen run self.new.parts ⊎ HasLost (actors_of (seats_of self.new)) (code_in self.new.parts) }

@@ -14,9 +14,11 @@ use Rattle.model_script.specs.{group_of}
 use Rattle.redo_archive.specs.Part.{Part}
 use Rattle.redo_archiver.proofs.Longer.{part-longer}
 use Rattle.redo_archiver.specs.{append_code}
+use Rattle.redo_disk.specs.{Call}
 use Rattle.redo_disk.specs.Seen.{Seen}
 use Rattle.redo_disk.specs.declared.error.DevError.{DevError}
 use Rattle.redo_disk.specs.declared.error.DevError.TheVariants.{Failed}
+use Rattle.redo_drive.proofs.CallsOn.{not_called}
 use Rattle.redo_drive.proofs.Viewed.{views_at}
 use Rattle.redo_drive.specs.Making.{EndsWithReaders}
 use Rattle.redo_drive.specs.Setups.{seated_actors}
@@ -135,19 +137,20 @@ crew_reads {F} false None works ps m x at =
     record { index = m; one = p.0; at = p.1; is = p.2; place_is = refl }
 
 -- whose archive it is
-pub record Owner {L D A F : Type 0} (seen : A → Seen) (about : About L D) (before : Part A) (v : View L D) (p : Player F)
-    (archive : Option (Part A)) : Type 0 where
+pub record Owner {L D A F : Type 0} (seen : A → Seen) (gives : A → Call → A → Type 0) (about : About L D)
+    (before : Part A) (v : View L D) (p : Player F) (archive : Option (Part A)) : Type 0 where
   pub state : ReaderState
   pub part : Part A
   pub player_is : ◌≡◌ {A = Player F} p (player.Plain (own.Archiver state))
   pub archive_is : archive ≡ Some part
-  pub archives : Archives seen about before v state part
+  pub archives : Archives seen gives about before v state part
 
-pub owner : {L D A F : Type 0} (seen : A → Seen) (about : About L D) (before : Part A) (v : View L D) (p : Player F)
-    (archive : Option (Part A)) → KeepsArchive seen about before v p archive → Owner seen about before v p archive
-owner seen about before v (player.Plain (own.Archiver r)) (Some part) keeps =
+pub owner : {L D A F : Type 0} (seen : A → Seen) (gives : A → Call → A → Type 0) (about : About L D) (before : Part A)
+    (v : View L D) (p : Player F) (archive : Option (Part A)) → KeepsArchive seen gives about before v p archive
+    → Owner seen gives about before v p archive
+owner seen gives about before v (player.Plain (own.Archiver r)) (Some part) keeps =
     record { state = r; part = part; player_is = refl; archive_is = refl; archives = keeps }
-owner seen about before v _ _ keeps = absurd keeps
+owner seen gives about before v _ _ keeps = absurd keeps
 
 module _ {L D A F : Type 0} (seen : A → Seen) (shared : Shared L D F) (players : List (Player F))
     (B : BeginsWithReaders shared players) where
@@ -170,11 +173,12 @@ module _ {L D A F : Type 0} (seen : A → Seen) (shared : Shared L D F) (players
       B.readers (place (own_of shared) players i) r
       (crew_at (own_of shared) B.work B.works players i (player.Plain (own.Archiver r)) at)
 
-  module _ (part : Part A) (new : IsNewArchive seen (opened_of shared) (shared_script shared) part)
+  module _ (gives : A → Call → A → Type 0) (part : Part A)
+      (new : IsNewArchive seen (opened_of shared) (shared_script shared) part)
       (may : MayBegin (opened_of shared) (shared_script shared) key.log_only) where
     -- A NEW ARCHIVE stands beside a new archiver.
     its_archives : (v : View L D) → v.about ≡ Some key → ◌≡◌ {A = Heard} (heard_of v) nothing
-        → Archives seen key part v (new_reader 0 start) part
+        → Archives seen gives key part v (new_reader 0 start) part
     its_archives v told none =
         let place = may.runnable.place in
         let mark : part.marks.mark ≡ start = ap (λ (z : _). z.mark) new.begun in
@@ -192,6 +196,7 @@ module _ {L D A F : Type 0} (seen : A → Seen) (shared : Shared L D F) (players
             size = refl;
             later = omega arith;
             risen = λ failed. let z : None ≡ Some Failed = sym new.live ∙ failed in absurd (cc);
+            calls = not_called gives part.dev part.failed;
           };
           flushed = start;
           pace = record {
@@ -222,7 +227,7 @@ module _ {L D A F : Type 0} (seen : A → Seen) (shared : Shared L D F) (players
         }
 
     pub may_be : (x : Crew L D F) → x.players.items ≡ players → AreFresh (Some key) x.seats.items → key.archive ≡ true
-        → MayBeArchived seen key part x part
+        → MayBeArchived seen gives key part x part
     may_be x is fresh archived =
         let f = subst (λ (l : List (Player F)). Found l) (sym is) (crew_archiver B.work players _ (new_reader 0 start)
         (archiver_there key.opened.value.shape key.script.value start key.log_only B.followers cs
@@ -238,9 +243,10 @@ module _ {L D A F : Type 0} (seen : A → Seen) (shared : Shared L D F) (players
         }
       where
         its : (i : ℕ) (s : Seat (Slot L D) (View L D)) (p : Player F) → get_elem? x.seats.items i ≡ maybe.some s
-            → get_elem? players i ≡ maybe.some p → IsArchiving p → KeepsArchive seen key part s.me.0 p (Some part)
+            → get_elem? players i ≡ maybe.some p → IsArchiving p
+            → KeepsArchive seen gives key part s.me.0 p (Some part)
         its i s (player.Plain (own.Archiver r)) sits at archiving =
-            subst (λ (z : ReaderState). Archives seen key part s.me.0 z part) (sym (is_new i r at))
+            subst (λ (z : ReaderState). Archives seen gives key part s.me.0 z part) (sym (is_new i r at))
             (its_archives s.me.0 (fresh.knows i s sits) (fresh.none i s sits))
         its i s (player.Plain (own.User u)) sits at archiving = absurd archiving
         its i s (player.Plain (own.Writer u)) sits at archiving = absurd archiving

@@ -39,15 +39,16 @@ use Rattle.redo_rule.specs.declared.law.View.{View}
 use Rattle.redo_threads.proofs.ScriptBytes.{flushed_within, last_within}
 use Rattle.redo_threads.specs.Archiving.{Archives, end_about, IsFullIn}
 
-module _ {L D A F : Type 0} (log_seen : L → Seen) (log_gives : L → Call → L → Type 0) (data_seen : D → Seen)
-    (data_gives : D → Call → D → Type 0) (seen : A → Seen) (stands : F → List Given → Type 0) (about : About L D)
+module _ {L D A F : Type 0} {gives : A → Call → A → Type 0} (log_seen : L → Seen) (log_gives : L → Call → L → Type 0)
+    (data_seen : D → Seen) (data_gives : D → Call → D → Type 0) (seen : A → Seen) (stands : F → List Given → Type 0)
+    (about : About L D)
     (starts actors : List (Actor F)) (seats : List (Seat (Slot L D) (View L D))) (closed : Closed L D)
     (left : LeavesHeard log_seen log_gives data_seen data_gives stands about.opened.value about.script.value about.log_only
     about.archive about.followers starts actors seats closed)
     (place : ℕ) (seat : Seat (Slot L D) (View L D)) (sits : get_elem? seats place ≡ maybe.some seat) (n : ℕ) (r : ReaderState)
     (at : get_elem? (views_of actors) n ≡ maybe.some (model.Reader r))
     (only : (m : ℕ) (x : ReaderState) → get_elem? (views_of actors) m ≡ maybe.some (model.Reader x) → archives x ≡ true → m ≡ n)
-    (before part : Part A) (S : Archives seen about before seat.me.0 r part)
+    (before part : Part A) (S : Archives seen gives about before seat.me.0 r part)
     (start : before.start ≡ about.opened.value.start) (failed : part.failed ≡ closed.lost) where
   abbrev E : LogSide
   E = run_log_side log_seen data_seen left.by.run
@@ -103,7 +104,7 @@ module _ {L D A F : Type 0} (log_seen : L → Seen) (log_gives : L → Call → 
         full_in wholes are bs all.1,
       )
 
-  come : HasCome log_seen data_seen seen left.by.run left.by.last (views_of actors) left.by.from.runs before part
+  come : HasCome log_seen data_seen seen gives left.by.run left.by.last (views_of actors) left.by.from.runs before part
   come = record {
     beside = record {
       seat = n;
@@ -139,7 +140,7 @@ module _ {L D A F : Type 0} (log_seen : L → Seen) (log_gives : L → Call → 
   }
 
   -- SO THE RUN LEAVES IT.
-  pub left_archived : HasArchived log_seen data_seen seen about.opened.value about.script.value closed (views_of actors)
-      before part
+  pub left_archived : HasArchived log_seen data_seen seen gives about.opened.value about.script.value closed
+      (views_of actors) before part
   left_archived = has_archived log_seen log_gives data_seen data_gives seen stands about.opened.value about.script.value
       about.log_only about.followers starts actors (done_with closed) left.by before part come failed

@@ -27,19 +27,21 @@ use Rattle.redo_threads.specs.Archiving.{ArchiveStays, BeginsWithReaders, lost_o
 use Rattle.redo_threads.specs.Working.{KeepOn}
 use Rattle.redo_threads.specs.declared.crew.Crew.{Crew}
 
-module _ {L D A F : Type 0} (seen : A → Seen) (shared : Shared L D F) (players : List (Player F))
-    (B : BeginsWithReaders shared players) (stands : F → List Given → Type 0) (table : TableId) (x y : Crew L D F)
+module _ {L D A F : Type 0} {gives : A → Call → A → Type 0} (seen : A → Seen) (shared : Shared L D F)
+    (players : List (Player F)) (B : BeginsWithReaders shared players) (stands : F → List Given → Type 0)
+    (table : TableId) (x y : Crew L D F)
     (is : x.players.items ≡ players) (many : length x.seats.items ≡ length x.players.items) (keep : KeepOn stands table x y)
     (fresh : AreFresh (Some shared.board.shared.key) x.seats.items) (part : Part A)
     (new : IsNewArchive seen (opened_of shared) (shared_script shared) part)
     (may : MayBegin (opened_of shared) (shared_script shared) shared.board.shared.key.log_only)
-    (archived : shared.board.shared.key.archive ≡ true) (later : Option (Part A)) (st : ArchiveStays seen x part y later) where
+    (archived : shared.board.shared.key.archive ≡ true) (later : Option (Part A))
+    (st : ArchiveStays seen gives x part y later) where
   abbrev key : About L D
   key = shared.board.shared.key
 
-  o : Owner seen key part st.seat.me.0 st.then later
-  o = owner seen key part st.seat.me.0 st.then later
-      (st.keeps key part (may_be seen shared players B part new may x is fresh archived))
+  o : Owner seen gives key part st.seat.me.0 st.then later
+  o = owner seen gives key part st.seat.me.0 st.then later
+      (st.keeps key part (may_be seen shared players B gives part new may x is fresh archived))
 
   lost_is : (lost : Option DevError) → lost ≡ lost_of later → lost ≡ o.part.failed
   lost_is lost told = told ∙ ap (λ (a : Option (Part A)). lost_of a) o.archive_is
@@ -57,9 +59,9 @@ module _ {L D A F : Type 0} (seen : A → Seen) (shared : Shared L D F) (players
       (actors : List (Actor F)) (actors_are : ◌≡◌ {A = List (Actor F)} actors (crew work y.players.items)) (closed : Closed L D)
       (left : LeavesHeard log_seen log_gives data_seen data_gives stands key.opened.value key.script.value key.log_only
       key.archive key.followers (crew work players) actors y.seats.items closed) (told : closed.lost ≡ lost_of later) where
-    pub leaves_archive : HaveArchived log_seen data_seen seen (opened_of shared) (shared_script shared) closed
+    pub leaves_archive : HaveArchived log_seen data_seen seen gives (opened_of shared) (shared_script shared) closed
         (views_of actors) (Some part) later
-    leaves_archive = subst (λ (a : Option (Part A)). HaveArchived log_seen data_seen seen (opened_of shared)
+    leaves_archive = subst (λ (a : Option (Part A)). HaveArchived log_seen data_seen seen gives (opened_of shared)
         (shared_script shared) closed (views_of actors) (Some part) a) (sym o.archive_is)
         (left_archived log_seen log_gives data_seen data_gives seen stands key (crew work players) actors y.seats.items
         closed left st.place st.seat st.sits

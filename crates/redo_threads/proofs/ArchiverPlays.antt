@@ -13,6 +13,7 @@ use Rattle.model_core.specs.declared.ops.Step.{Step}
 use Rattle.model_running.specs.{IsNoAppend}
 use Rattle.redo_archive.specs.Part.{Part}
 use Rattle.redo_archiver.specs.{append_answer}
+use Rattle.redo_disk.specs.{Call}
 use Rattle.redo_disk.specs.Seen.{Seen}
 use Rattle.redo_drive.proofs.ArchiveTurns.{one_reader}
 use Rattle.redo_drive.specs.Receiving.{follower_of, IsSameFollower}
@@ -41,11 +42,11 @@ no_append _ none = tt
 no_part : {A : Type 0} (x : Part A) → ◌≡◌ {A = Option (Part A)} (Some x) None → ⊥
 no_part x e = absurd (cc)
 
-module _ {L D A F : Type 0} (log_seen : L → Seen) (data_seen : D → Seen) (seen : A → Seen) (stands : F → List Given → Type 0)
-    (table : TableId) where
+module _ {L D A F : Type 0} (log_seen : L → Seen) (data_seen : D → Seen) (seen : A → Seen)
+    (gives : A → Call → A → Type 0) (stands : F → List Given → Type 0) (table : TableId) where
   -- AN APPEND
   module _ (s t : Seat (Slot L D) (View L D)) (a b : Actor F) (mark : ℕ) (old new : Part A)
-      (H : HasAppended seen stands table mark s a old t b new) where
+      (H : HasAppended seen gives stands table mark s a old t b new) where
     abbrev r : ReaderState
     r = H.archiver
 
@@ -59,18 +60,19 @@ module _ {L D A F : Type 0} (log_seen : L → Seen) (data_seen : D → Seen) (se
     became = still_archiver r b later
         (subst (λ (z : Actor F). IsSameFollower (follower_of z) (follower_of b)) H.is H.same.same)
 
-    archives_then : (about : About L D) (before : Part A) → KeepsArchive seen about before s.me.0 (player.Plain a) (Some old)
-        → KeepsArchive seen about before t.me.0 (player.Plain b) (Some new)
+    archives_then : (about : About L D) (before : Part A)
+        → KeepsArchive seen gives about before s.me.0 (player.Plain a) (Some old)
+        → KeepsArchive seen gives about before t.me.0 (player.Plain b) (Some new)
     archives_then about before keeps =
-        let S : Archives seen about before s.me.0 r old =
-        subst (λ (z : Actor F). KeepsArchive seen about before s.me.0 (player.Plain z) (Some old)) H.is keeps in
+        let S : Archives seen gives about before s.me.0 r old =
+        subst (λ (z : Actor F). KeepsArchive seen gives about before s.me.0 (player.Plain z) (Some old)) H.is keeps in
         let x = became in
-        subst (λ (z : Actor F). KeepsArchive seen about before t.me.0 (player.Plain z) (Some new)) (sym x.1)
+        subst (λ (z : Actor F). KeepsArchive seen gives about before t.me.0 (player.Plain z) (Some new)) (sym x.1)
         (archive_appended log_seen data_seen seen about before old s.me.0 t.me.0 r x.0 S H.same.about new mark H.asks H.appends
         (sym (ap view_of x.1) ∙ took_is)
         (H.blocks ∙ ap (λ (z : Actor F). (heard_of s.me.0).blocks ++ appended_by (view_of z)) H.is))
 
-    pub with_appended : GoesOnWith seen stands table s (player.Plain a) (Some old) t (player.Plain b) (Some new)
+    pub with_appended : GoesOnWith seen gives stands table s (player.Plain a) (Some old) t (player.Plain b) (Some new)
     with_appended = record {
       player = record {
         seat = H.sits;
@@ -85,14 +87,14 @@ module _ {L D A F : Type 0} (log_seen : L → Seen) (data_seen : D → Seen) (se
     -- it appends nothing, or there is no archive
     archive_kept : (p q : Player F) (archive : Option (Part A)) → IsSameSeat stands s.me.0 (actor_of p) t.me.0 (actor_of q)
         → IsSamePlayer p q → PlayerHasGone log_seen data_seen s.me.0 p step q → PlayerAsks s.me.0 p o → IsNoAppend o
-        → (about : About L D) (before : Part A) → KeepsArchive seen about before s.me.0 p archive
-        → KeepsArchive seen about before t.me.0 q archive
+        → (about : About L D) (before : Part A) → KeepsArchive seen gives about before s.me.0 p archive
+        → KeepsArchive seen gives about before t.me.0 q archive
     archive_kept (player.Plain (own.Archiver r)) (player.Plain b) (Some part) same alike gone asks none about before S =
         let x = still_archiver r b alike same.same in
-        subst (λ (z : Actor F). KeepsArchive seen about before t.me.0 (player.Plain z) (Some part)) (sym x.1)
+        subst (λ (z : Actor F). KeepsArchive seen gives about before t.me.0 (player.Plain z) (Some part)) (sym x.1)
         (⊎_elim
         (λ rests. let is : ◌≡◌ {A = ReaderState} r x.0 = one_reader r x.0 (sym rests.1 ∙ ap view_of x.1) in
-        subst (λ (z : ReaderState). Archives seen about before t.me.0 z part) is (record {
+        subst (λ (z : ReaderState). Archives seen gives about before t.me.0 z part) is (record {
           told = same.about ∙ S.told;
           may = S.may;
           same = S.same;
@@ -117,7 +119,7 @@ module _ {L D A F : Type 0} (log_seen : L → Seen) (data_seen : D → Seen) (se
     pub with_played : (p q : Player F) (archive : Option (Part A)) → IsPlayerSeat table t q
         → IsSameSeat stands s.me.0 (actor_of p) t.me.0 (actor_of q) → IsSamePlayer p q
         → PlayerHasGone log_seen data_seen s.me.0 p step q → PlayerAsks s.me.0 p o → IsNoAppend o
-        → GoesOnWith seen stands table s p archive t q archive
+        → GoesOnWith seen gives stands table s p archive t q archive
     with_played p q archive seat same alike gone asks none = record {
       player = record { seat = seat; same = same; player = alike };
       archive = record { none = λ e. e; some = archive_kept p q archive same alike gone asks none };
@@ -125,16 +127,18 @@ module _ {L D A F : Type 0} (log_seen : L → Seen) (data_seen : D → Seen) (se
 
     pub with_none : (p q : Player F) (archive : Option (Part A)) → IsPlayerSeat table t q
         → IsSameSeat stands s.me.0 (actor_of p) t.me.0 (actor_of q) → IsSamePlayer p q → archive ≡ None
-        → GoesOnWith seen stands table s p archive t q archive
+        → GoesOnWith seen gives stands table s p archive t q archive
     with_none p q archive seat same alike is = record {
       player = record { seat = seat; same = same; player = alike };
       archive = record {
         none = λ e. e;
-        some = λ about before keeps. absurd (none_kept about before p (subst (KeepsArchive seen about before s.me.0 p) is keeps));
+        some = λ about before keeps.
+            absurd (none_kept about before p (subst (KeepsArchive seen gives about before s.me.0 p) is keeps));
       };
     }
       where
-        none_kept : (about : About L D) (before : Part A) (p : Player F) → KeepsArchive seen about before s.me.0 p None → ⊥
+        none_kept : (about : About L D) (before : Part A) (p : Player F)
+            → KeepsArchive seen gives about before s.me.0 p None → ⊥
         none_kept about before (player.Plain (own.Archiver r)) keeps = keeps
         none_kept about before (player.Plain (own.User r)) keeps = keeps
         none_kept about before (player.Plain (own.Writer r)) keeps = keeps
@@ -147,9 +151,10 @@ module _ {L D A F : Type 0} (log_seen : L → Seen) (data_seen : D → Seen) (se
 
   -- WHO HAS AN ARCHIVE and asks for an append is the archiver, and may have it.
   pub is_archiver : (s : Seat (Slot L D) (View L D)) (p : Player F) (a : Actor F) (part : Part A) → p ≡ player.Plain a
-      → MayArchive seen s.me.0 p (Some part) → IsArchiver a
-  is_archiver s p a part is may = by a (subst (λ (z : Player F). KeepsArchive seen may.0 may.1 s.me.0 z (Some part)) is may.2)
+      → MayArchive seen gives s.me.0 p (Some part) → IsArchiver a
+  is_archiver s p a part is may =
+      by a (subst (λ (z : Player F). KeepsArchive seen gives may.0 may.1 s.me.0 z (Some part)) is may.2)
     where
-      by : (a : Actor F) → KeepsArchive seen may.0 may.1 s.me.0 (player.Plain a) (Some part) → IsArchiver a
+      by : (a : Actor F) → KeepsArchive seen gives may.0 may.1 s.me.0 (player.Plain a) (Some part) → IsArchiver a
       by (own.Archiver r) keeps = tt
       by _ keeps = absurd keeps

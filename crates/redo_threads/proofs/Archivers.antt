@@ -23,10 +23,12 @@ use Rattle.redo_archive.specs.Part.{Part, PartArchives}
 use Rattle.redo_archiver.proofs.Turning.{pace-turns}
 use Rattle.redo_archiver.specs.Archived.{appends_at, heard_at, RoundAt}
 use Rattle.redo_archiver.specs.{append_answer, append_code, AppendsNothing, HearsFlushed, KeepsPace, marks_after}
+use Rattle.redo_disk.specs.{Call}
 use Rattle.redo_disk.specs.Seen.{Seen}
 use Rattle.redo_disk.specs.declared.error.DevError.{DevError}
 use Rattle.redo_drive.proofs.ArchiveGroups.{risen_since}
 use Rattle.redo_drive.proofs.ArchiveTurns.{asked_then, flushed_place, one_reader, step_appends}
+use Rattle.redo_drive.proofs.CallsOn.{calls_then}
 use Rattle.redo_drive.specs.Archiving.{Appends, IsSameArchive}
 use Rattle.redo_drive.specs.Lists.{lists_of}
 use Rattle.redo_rule.proofs.Loading.{Loads, reader_loads}
@@ -156,8 +158,9 @@ put_nothing = record { block = []; texts = [] }
 filled_same : (r : ReaderState) → r.step ≡ reader_step.Append → ◌≡◌ {A = ReaderState} (reader_filled r put_nothing r.step) r
 filled_same r is = ap (reader_filled r put_nothing) is
 
-module _ {L D A : Type 0} (log_seen : L → Seen) (data_seen : D → Seen) (seen : A → Seen) (about : About L D) (before part : Part A)
-    (v w : View L D) (r x : ReaderState) (S : Archives seen about before v r part) (same_about : w.about ≡ v.about) where
+module _ {L D A : Type 0} {gives : A → Call → A → Type 0} (log_seen : L → Seen) (data_seen : D → Seen) (seen : A → Seen)
+    (about : About L D) (before part : Part A) (v w : View L D) (r x : ReaderState)
+    (S : Archives seen gives about before v r part) (same_about : w.about ≡ v.about) where
   -- A TURN THAT APPENDS NOTHING leaves the archive beside its archiver.
   module _ (step : Step) (played : HasPlayed log_seen data_seen v (model.Reader r) step (model.Reader x))
       (none : IsNoAppend (next (model.Reader r))) (more : List Block)
@@ -222,7 +225,7 @@ module _ {L D A : Type 0} (log_seen : L → Seen) (data_seen : D → Seen) (seen
             some_code DevError.Failed is = absurd (cc)
             some_code DevError.NoMemory is = absurd (cc)
 
-    pub archive_turned : Archives seen about before w x part
+    pub archive_turned : Archives seen gives about before w x part
     archive_turned = record {
       told = same_about ∙ S.told;
       may = S.may;
@@ -239,7 +242,7 @@ module _ {L D A : Type 0} (log_seen : L → Seen) (data_seen : D → Seen) (seen
 
   -- AN APPEND brings it as far as the archiver again.
   module _ (new : Part A) (mark : ℕ) (asks : next (model.Reader r) ≡ op.Append mark)
-      (appends : Appends seen r part (append_answer new.failed) new)
+      (appends : Appends seen gives r part (append_answer new.failed) new)
       (took_is : model.Reader x ≡ took (model.Reader r) (append_answer new.failed))
       (blocks : (heard_of w).blocks ≡ (heard_of v).blocks ++ appended_by (model.Reader r)) where
     step_is : r.step ≡ reader_step.Append
@@ -272,7 +275,7 @@ module _ {L D A : Type 0} (log_seen : L → Seen) (data_seen : D → Seen) (seen
         ap (λ (z : ArchMarks). z.asked) e ∙ sym (ap (λ (z : ArchMarks). z.mark) e)
     live_so (Some fault) is none = absurd (cc)
 
-    still_same : IsSameArchive seen before new
+    still_same : IsSameArchive seen gives before new
     still_same = let a = appends.appended in let s = S.same in record {
       shape = a.shape ∙ s.shape;
       start = a.start ∙ s.start;
@@ -280,9 +283,10 @@ module _ {L D A : Type 0} (log_seen : L → Seen) (data_seen : D → Seen) (seen
       later = (let x = a.later in let y = s.later in omega arith);
       risen = λ is. risen_since (seen before.dev).faults (seen part.dev).faults (seen new.dev).faults
           s.later a.later (a.risen is);
+      calls = calls_then gives before.dev part.dev new.dev before.failed part.failed new.failed s.calls appends.calls;
     }
 
-    pub archive_appended : Archives seen about before w x new
+    pub archive_appended : Archives seen gives about before w x new
     archive_appended =
         let asked = asked_then r.mark appends.mark part new appends.appended.marks asked_so.0 asked_so.1 in
         let e = mark_stays in

@@ -8,6 +8,7 @@ use Rattle.atomic_table.specs.Seated.{TableId}
 use Rattle.atomic_table.specs.declared.shared.Seat.{Seat}
 use Rattle.model_core.specs.{Given}
 use Rattle.redo_archive.specs.Part.{Part}
+use Rattle.redo_disk.specs.{Call}
 use Rattle.redo_disk.specs.Seen.{Seen}
 use Rattle.redo_ownrule.specs.declared.player.Player.{Player}
 use Rattle.redo_rule.specs.declared.law.About.{About}
@@ -56,8 +57,9 @@ ends_with (x ∷ xs) zero q ends one (suc i) p at = ends i p at
 ends_with (x ∷ xs) (suc n) q ends one zero p at = ends zero p at
 ends_with (x ∷ xs) (suc n) q ends one (suc i) p at = ends_with xs n q (λ j r bt. ends (suc j) r bt) one i p at
 
-module _ {L D A F : Type 0} (stands : F → List Given → Type 0) (table : TableId) (seen : A → Seen) (x rest : Crew L D F)
-    (n : ℕ) (w : Worker L D A F) (seated : AreSeated table x.seats.items x.players.items)
+module _ {L D A F : Type 0} (stands : F → List Given → Type 0) (table : TableId) (seen : A → Seen)
+    (gives : A → Call → A → Type 0) (x rest : Crew L D F) (n : ℕ) (w : Worker L D A F)
+    (seated : AreSeated table x.seats.items x.players.items)
     (out : IsTakenOut x n w.seat w.player rest) (many : length x.seats.items ≡ length x.players.items) (part : Part A)
     (archive_is : w.archive ≡ Some part) (p : Player F) (p_at : get_elem? x.players.items n ≡ maybe.some p)
     (archives : IsArchiving p) where
@@ -70,26 +72,26 @@ module _ {L D A F : Type 0} (stands : F → List Given → Type 0) (table : Tabl
   its : IsArchiving w.player
   its = subst (λ (z : Player F). IsArchiving z) (maybe.some-injective p w.player (sym p_at ∙ player_at)) archives
 
-  keeps : (about : About L D) (before : Part A) → MayBeArchived seen about before x part
-      → KeepsArchive seen about before w.seat.me.0 w.player w.archive
-  keeps about before M = subst (KeepsArchive seen about before w.seat.me.0 w.player) (sym archive_is)
+  keeps : (about : About L D) (before : Part A) → MayBeArchived seen gives about before x part
+      → KeepsArchive seen gives about before w.seat.me.0 w.player w.archive
+  keeps about before M = subst (KeepsArchive seen gives about before w.seat.me.0 w.player) (sym archive_is)
       (M.each n w.seat w.player seat_at player_at its)
 
-  pub may_work : (about : About L D) × (before : Part A) × MayBeArchived seen about before x part
-      → MayWork seen table (Some w)
+  pub may_work : (about : About L D) × (before : Part A) × MayBeArchived seen gives about before x part
+      → MayWork seen gives table (Some w)
   may_work may = (
     taken_sits stands table x rest n (worker w.seat w.player) seated out,
     subst (λ (a : Option (Part A)). IfSome a (λ z. (about : About L D) × (before : Part A)
-        × KeepsArchive seen about before w.seat.me.0 w.player a)) (sym archive_is)
+        × KeepsArchive seen gives about before w.seat.me.0 w.player a)) (sym archive_is)
         (may.0, may.1, M.each n w.seat w.player seat_at player_at its),
   )
     where
-      M : MayBeArchived seen may.0 may.1 x part
+      M : MayBeArchived seen gives may.0 may.1 x part
       M = may.2
 
   pub stays : (y z : Crew L D F) (v : Worker L D A F) → KeepOn stands table rest y
-      → GoesOnWith seen stands table w.seat w.player w.archive v.seat v.player v.archive
-      → IsPutBack y n v.seat v.player z → ArchiveStays seen x part z v.archive
+      → GoesOnWith seen gives stands table w.seat w.player w.archive v.seat v.player v.archive
+      → IsPutBack y n v.seat v.player z → ArchiveStays seen gives x part z v.archive
   stays y z v h on back =
       let place = has_place stands table x rest n (worker w.seat w.player) seated out y h in
       record {

@@ -49,12 +49,15 @@ module _ {L D : Type 0} (log_seen : L → Seen) (log_gives : L → Call → L �
       opened_is
 
   -- and of its archive
-  pub archived : {A : Type 0} (seen : A → Seen) (actors : List model.Actor) (before after : Option (Part A))
-      → HaveArchived log_seen data_seen seen known lines closed actors before after
-      → HaveArchived log_seen data_seen seen opened script closed actors before after
-  archived seen actors before after have =
-      subst (λ (o : Opened L D). HaveArchived log_seen data_seen seen o script closed actors before after) opened_is
-      (subst (λ (s : List ScriptLine). HaveArchived log_seen data_seen seen known s closed actors before after) script_is have)
+  pub archived : {A : Type 0} (seen : A → Seen) (gives : A → Call → A → Type 0) (actors : List model.Actor)
+      (before after : Option (Part A))
+      → HaveArchived log_seen data_seen seen gives known lines closed actors before after
+      → HaveArchived log_seen data_seen seen gives opened script closed actors before after
+  archived seen gives actors before after have =
+      subst (λ (o : Opened L D). HaveArchived log_seen data_seen seen gives o script closed actors before after)
+      opened_is
+      (subst (λ (s : List ScriptLine). HaveArchived log_seen data_seen seen gives known s closed actors before after)
+      script_is have)
 
   module _ {F : Type 0} (stands : F → List Given → Type 0) (alone archive : Bool) (count : ℕ) (starts actors : List (Actor F))
       (left : LeavesWith log_seen log_gives data_seen data_gives stands known lines alone archive count starts actors closed)

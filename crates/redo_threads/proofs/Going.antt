@@ -6,6 +6,7 @@ use Rattle.atomic_table.specs.declared.shared.Seat.{Seat}
 use Rattle.model_core.proofs.Later.{later_refl, later_trans}
 use Rattle.model_core.specs.{Given}
 use Rattle.model_core.specs.Actors as model
+use Rattle.redo_disk.specs.{Call}
 use Rattle.redo_disk.specs.Seen.{Seen}
 use Rattle.redo_drive.specs.Receiving.{follower_of, HasGot, IsSameFollower}
 use Rattle.redo_drive.specs.Views.{view_of}
@@ -125,27 +126,27 @@ module _ {L D F : Type 0} (stands : F → List Given → Type 0) where
     }
 
     -- THE SAME WITH AN ARCHIVE, or without
-    module _ {A : Type 0} (seen : A → Seen) where
+    module _ {A : Type 0} (seen : A → Seen) (gives : A → Call → A → Type 0) where
       pub with_refl : (s : Seat (Slot L D) (View L D)) (p : Player F) (a : Option (Part A)) → IsPlayerSeat table s p
-          → GoesOnWith seen stands table s p a s p a
+          → GoesOnWith seen gives stands table s p a s p a
       with_refl s p a h = record {
         player = goes_refl s p h;
         archive = record { none = λ e. e; some = λ about before keeps. keeps };
       }
 
       pub with_asked : (s t : Seat (Slot L D) (View L D)) (p : Player F) (a : Option (Part A)) → IsPlayerSeat table t p
-          → t.me ≡ s.me → GoesOnWith seen stands table s p a t p a
+          → t.me ≡ s.me → GoesOnWith seen gives stands table s p a t p a
       with_asked s t p a h e = record {
         player = goes_asked s t p h e;
         archive = record {
           none = λ e. e;
-          some = λ about before keeps. subst (λ m. KeepsArchive seen about before m.0 p a) (sym e) keeps;
+          some = λ about before keeps. subst (λ m. KeepsArchive seen gives about before m.0 p a) (sym e) keeps;
         };
       }
 
       pub with_trans : (s t u : Seat (Slot L D) (View L D)) (p q r : Player F) (a b c : Option (Part A))
-          → GoesOnWith seen stands table s p a t q b → GoesOnWith seen stands table t q b u r c
-          → GoesOnWith seen stands table s p a u r c
+          → GoesOnWith seen gives stands table s p a t q b → GoesOnWith seen gives stands table t q b u r c
+          → GoesOnWith seen gives stands table s p a u r c
       with_trans s t u p q r a b c h k = record {
         player = goes_trans s t u p q r h.player k.player;
         archive = record {
@@ -156,7 +157,8 @@ module _ {L D F : Type 0} (stands : F → List Given → Type 0) where
 
       -- it may go on playing
       pub may_still : (s t : Seat (Slot L D) (View L D)) (p q : Player F) (a b : Option (Part A))
-          → MayArchive seen s.me.0 p a → GoesOnWith seen stands table s p a t q b → MayArchive seen t.me.0 q b
+          → MayArchive seen gives s.me.0 p a → GoesOnWith seen gives stands table s p a t q b
+          → MayArchive seen gives t.me.0 q b
       may_still s t p q None None may on = tt
       may_still s t p q None (Some part) may on = absurd (let z : Some part ≡ None = on.archive.none refl in cc)
       may_still s t p q (Some part) None may on = tt
@@ -164,21 +166,21 @@ module _ {L D F : Type 0} (stands : F → List Given → Type 0) where
 
       -- what the promise of a worker says
       pub with_promised : (p w v : Worker L D A F) → p ≡ w → IsPlayerSeat table w.seat w.player
-          → GoesOnWith seen stands p.seat.table_id p.seat p.player p.archive v.seat v.player v.archive
-          → GoesOnWith seen stands table w.seat w.player w.archive v.seat v.player v.archive
+          → GoesOnWith seen gives stands p.seat.table_id p.seat p.player p.archive v.seat v.player v.archive
+          → GoesOnWith seen gives stands table w.seat w.player w.archive v.seat v.player v.archive
       with_promised p w v e sits h =
-          subst (λ (m : TableId). GoesOnWith seen stands m w.seat w.player w.archive v.seat v.player v.archive)
+          subst (λ (m : TableId). GoesOnWith seen gives stands m w.seat w.player w.archive v.seat v.player v.archive)
           (at_table table w.seat w.player sits)
           (subst (λ (q : Worker L D A F).
-          GoesOnWith seen stands q.seat.table_id q.seat q.player q.archive v.seat v.player v.archive) e h)
+          GoesOnWith seen gives stands q.seat.table_id q.seat q.player q.archive v.seat v.player v.archive) e h)
 
       -- a worker, if there is one
-      pub works_refl : (w : Option (Worker L D A F)) → MayWork seen table w → WorksOn seen stands table w w
+      pub works_refl : (w : Option (Worker L D A F)) → MayWork seen gives table w → WorksOn seen gives stands table w w
       works_refl None may = tt
       works_refl (Some w) may = with_refl w.seat w.player w.archive may.0
 
-      pub works_trans : (w v u : Option (Worker L D A F)) → WorksOn seen stands table w v → WorksOn seen stands table v u
-          → WorksOn seen stands table w u
+      pub works_trans : (w v u : Option (Worker L D A F)) → WorksOn seen gives stands table w v
+          → WorksOn seen gives stands table v u → WorksOn seen gives stands table w u
       works_trans None None None h k = tt
       works_trans None None (Some u) h k = absurd k
       works_trans None (Some v) u h k = absurd h
@@ -187,8 +189,8 @@ module _ {L D F : Type 0} (stands : F → List Given → Type 0) where
       works_trans (Some w) (Some v) (Some u) h k =
           with_trans w.seat v.seat u.seat w.player v.player u.player w.archive v.archive u.archive h k
 
-      pub work_still : (w v : Option (Worker L D A F)) → MayWork seen table w → WorksOn seen stands table w v
-          → MayWork seen table v
+      pub work_still : (w v : Option (Worker L D A F)) → MayWork seen gives table w
+          → WorksOn seen gives stands table w v → MayWork seen gives table v
       work_still None None may on = tt
       work_still None (Some v) may on = absurd on
       work_still (Some w) None may on = absurd on

@@ -15,6 +15,7 @@ use Rattle.model_page.specs.declared.content.Content.{Content}
 use Rattle.model_script.specs.{script_end}
 use Rattle.redo_archive.specs.Part.{Part, PartArchives}
 use Rattle.redo_archiver.specs.{append_answer, IsFullBlock, KeepsPace}
+use Rattle.redo_disk.specs.{Call}
 use Rattle.redo_disk.specs.Seen.{Seen}
 use Rattle.redo_disk.specs.declared.error.DevError.{DevError}
 use Rattle.redo_drive.specs.Archiving.{Appends, IsSameArchive}
@@ -55,11 +56,11 @@ end_about about = script_end about.opened.value.shape about.opened.value.start a
 -- AN ARCHIVE BESIDE ITS ARCHIVER, whose seat knows this of its table. It is the same archive as before, and as far as the
 -- archiver. Of each run of which all blocks that the seat has handed on are full ones it archives the groups, if it was begun
 -- as an archive.
-pub record Archives {L D A : Type 0} (seen : A → Seen) (about : About L D) (before : Part A) (v : View L D) (r : ReaderState)
-    (part : Part A) : Type 0 where
+pub record Archives {L D A : Type 0} (seen : A → Seen) (gives : A → Call → A → Type 0) (about : About L D)
+    (before : Part A) (v : View L D) (r : ReaderState) (part : Part A) : Type 0 where
   pub told : v.about ≡ Some about
   pub may : MayBegin about.opened.value about.script.value about.log_only
-  pub same : IsSameArchive seen before part
+  pub same : IsSameArchive seen gives before part
   pub flushed : ℕ
   pub pace : KeepsPace seen (end_about about) flushed r part
   -- what it was asked for last is its newest mark, or, once that has failed, at most what the archiver has loaded
@@ -76,13 +77,14 @@ IsArchiver (actor.Archiver r) = Unit {0}
 IsArchiver _ = ⊥
 
 -- THE BLOCK THAT THE ARCHIVER HAS READ WAS APPENDED: its archive tells what that met, and its seat has heard of the block.
-pub record HasAppended {L D A F : Type 0} (seen : A → Seen) (stands : F → List Given → Type 0) (table : TableId) (mark : ℕ)
-    (s : Seat (Slot L D) (View L D)) (a : Actor F) (old : Part A) (t : Seat (Slot L D) (View L D)) (b : Actor F)
+pub record HasAppended {L D A F : Type 0} (seen : A → Seen) (gives : A → Call → A → Type 0)
+    (stands : F → List Given → Type 0) (table : TableId) (mark : ℕ) (s : Seat (Slot L D) (View L D)) (a : Actor F)
+    (old : Part A) (t : Seat (Slot L D) (View L D)) (b : Actor F)
     (new : Part A) : Type 0 where
   pub archiver : ReaderState
   pub is : ◌≡◌ {A = Actor F} a (actor.Archiver archiver)
   pub asks : next (model.Reader archiver) ≡ op.Append mark
-  pub appends : Appends seen archiver old (append_answer new.failed) new
+  pub appends : Appends seen gives archiver old (append_answer new.failed) new
   pub sits : IsSeatOf table t (view_of b)
   pub same : IsSameSeat stands s.me.0 a t.me.0 b
   pub took : view_of b ≡ took (view_of a) (append_answer new.failed)
@@ -111,10 +113,10 @@ pub record BeginsWithReaders {L D F : Type 0} (shared : Shared L D F) (players :
 abbrev pub AtItsEnd : {L D A F : Type 0} → Option (Worker L D A F) → Type 0
 AtItsEnd worker = IfSome worker (λ w. AtEnd w.player)
 
-module _ {L D A F : Type 0} (seen : A → Seen) where
+module _ {L D A F : Type 0} (seen : A → Seen) (gives : A → Call → A → Type 0) where
   -- the player is the archiver, and this its archive
   abbrev pub KeepsArchive : About L D → Part A → View L D → Player F → Option (Part A) → Type 0
-  KeepsArchive about before v (player.Plain (actor.Archiver r)) (Some part) = Archives seen about before v r part
+  KeepsArchive about before v (player.Plain (actor.Archiver r)) (Some part) = Archives seen gives about before v r part
   KeepsArchive about before v _ _ = ⊥
 
   -- if there is an archive, it is so

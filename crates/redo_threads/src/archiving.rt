@@ -29,7 +29,8 @@ fn append_to<L: Sectors, D: Sectors, A: Sectors, F: Receiver>(
     requires asks { next (view_of actor.old) ≡ op.Append mark }
     requires archiver { IsArchiver actor.old }
     requires may { MayAppendBlock A.seen part.old mark }
-    ensures { HasAppended A.seen F.stands_for table.now.table_id mark seat.old actor.old part.old seat.new actor.new part.new }
+    ensures { HasAppended A.seen A.gives F.stands_for table.now.table_id mark seat.old actor.old part.old seat.new
+        actor.new part.new }
 {
     archiver_appends::<A>();
     let Actor::Archiver(archiver) = &*actor else {
@@ -49,8 +50,9 @@ pub(crate) fn play_with<L: Sectors, D: Sectors, A: Sectors, F: Receiver>(
 ) -> Step
     requires seat { IsPlayerSeat table.now.table_id seat.old player.old }
     requires asks { PlayerAsks seat.old.me.0 player.old op }
-    requires archive { MayArchive A.seen seat.old.me.0 player.old archive.old }
-    ensures { GoesOnWith A.seen F.stands_for table.now.table_id seat.old player.old archive.old seat.new player.new archive.new }
+    requires archive { MayArchive A.seen A.gives seat.old.me.0 player.old archive.old }
+    ensures { GoesOnWith A.seen A.gives F.stands_for table.now.table_id seat.old player.old archive.old seat.new
+        player.new archive.new }
 {
     archiver_turns::<A>();
     archiver_may_append::<A>();

@@ -115,8 +115,8 @@ fn archiver_round<L: Sectors, D: Sectors, A: Sectors, F: Receiver, G: Gate>(
     gate: &G,
     archiver: &mut Option<Worker<L, D, A, F>>,
 ) -> Option<bool>
-    requires { MayWork A.seen table.now.table_id archiver.old }
-    ensures { WorksOn A.seen F.stands_for table.now.table_id archiver.old archiver.new }
+    requires { MayWork A.seen A.gives table.now.table_id archiver.old }
+    ensures { WorksOn A.seen A.gives F.stands_for table.now.table_id archiver.old archiver.new }
 {
     match archiver {
         Some(worker) => stint(
@@ -141,9 +141,9 @@ pub(crate) fn play_here<R: Wait, L: Sectors, D: Sectors, A: Sectors + Drop, F: R
     archiver: &mut Option<Worker<L, D, A, F>>,
 )
     requires seated { AreSeated table.now.table_id crew.old.seats.items crew.old.players.items }
-    requires archiver { MayWork A.seen table.now.table_id archiver.old }
+    requires archiver { MayWork A.seen A.gives table.now.table_id archiver.old }
     ensures crew { KeepOn F.stands_for table.now.table_id crew.old crew.new }
-    ensures archiver { WorksOn A.seen F.stands_for table.now.table_id archiver.old archiver.new }
+    ensures archiver { WorksOn A.seen A.gives F.stands_for table.now.table_id archiver.old archiver.new }
 {
     if !crew.players.is_empty() || archiver.is_some() {
         bells.stand_in();

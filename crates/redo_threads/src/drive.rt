@@ -56,7 +56,8 @@ pub fn drive_in_threads<
     ensures reads { IfOk result (λ left. left.0.closed.lost ≡ None → ReadsToMarks L.seen D.seen opened script.now left.0.closed) }
     ensures cause { IfOk result (λ left. CodeHasCause L.seen D.seen left.0.closed.code opened.log left.0.closed.log opened.store left.0.closed.store left.0.closed.lost) }
     ensures followed { IfOk result (λ left. HaveFollowed L.seen D.seen F.stands_for opened script.now followers.items left.1.items left.0.closed) }
-    ensures archived { IfOk result (λ left. HaveArchived L.seen D.seen A.seen opened script.now left.0.closed (views_of left.1.items) archive left.2) }
+    ensures archived { IfOk result (λ left. HaveArchived L.seen D.seen A.seen A.gives opened script.now left.0.closed
+        (views_of left.1.items) archive left.2) }
 {
     let is_archived = archive.is_some();
     let (shared, players) = match Shared::new(

@@ -103,10 +103,11 @@ fn play_crew<
     archive: Option<ArchPart<A>>,
 ) -> (Crew<L, D, F>, Option<ArchPart<A>>)
     requires seated { AreSeated table.now.table_id crew.seats.items crew.players.items }
-    requires archive { IfSome archive (λ part. (about : About L D) × (before : Part A) × MayBeArchived A.seen about before crew part) }
+    requires archive { IfSome archive (λ part. (about : About L D) × (before : Part A) × MayBeArchived A.seen A.gives
+        about before crew part) }
     ensures goes_on { KeepOn F.stands_for table.now.table_id crew result.0 }
     ensures at_end { AreAtEnd result.0.players.items }
-    ensures archive { LeavesArchive A.seen crew archive result.0 result.1 }
+    ensures archive { LeavesArchive A.seen A.gives crew archive result.0 result.1 }
 {
     let Some(part) = archive else {
         let (crew, _none) = play_all::<R, L, D, A, F, G>(rt, table, bells, gate, crew, None);
@@ -163,7 +164,8 @@ pub fn run_threads<
     ensures reads { result.0.lost ≡ None → ReadsToMarks L.seen D.seen (opened_of shared) (shared_script shared) result.0 }
     ensures reaches { ReachesAll (views_of result.1.items) result.0 }
     ensures cause { CodeHasCause L.seen D.seen result.0.code (opened_of shared).log result.0.log (opened_of shared).store result.0.store result.0.lost }
-    ensures archived { HaveArchived L.seen D.seen A.seen (opened_of shared) (shared_script shared) result.0 (views_of result.1.items) archive result.2 }
+    ensures archived { HaveArchived L.seen D.seen A.seen A.gives (opened_of shared) (shared_script shared) result.0
+        (views_of result.1.items) archive result.2 }
 {
     let users = open_users(players.as_slice());
     let own_writes = write_for_themselves(players.as_slice());

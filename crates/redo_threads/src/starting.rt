@@ -29,7 +29,8 @@ impl<L: Sectors, D: Sectors, A: Sectors, F: Receiver> Promise<Worker<L, D, A, F>
     for FromWorker<L, D, A, F> {
     ghost use Rattle.redo_threads.specs.Archiving.{GoesOnWith};
 
-    ghost kept_by = { λ p r. GoesOnWith A.seen F.stands_for p.0.value.seat.table_id p.0.value.seat p.0.value.player p.0.value.archive r.seat r.player r.archive };
+    ghost kept_by = { λ p r. GoesOnWith A.seen A.gives F.stands_for p.0.value.seat.table_id p.0.value.seat
+        p.0.value.player p.0.value.archive r.seat r.player r.archive };
 }
 
 /// What a thread does: it lets its player play up to the end. Where the thread couldn't be started, the caller has noted its
@@ -44,8 +45,9 @@ fn work_or_return<R: Wait, L: Sectors, D: Sectors, A: Sectors, F: Receiver, G: G
     mut worker: Worker<L, D, A, F>,
 ) -> Worker<L, D, A, F>
     requires seat { IsPlayerSeat table.now.table_id worker.seat worker.player }
-    requires archive { MayArchive A.seen worker.seat.me.0 worker.player worker.archive }
-    ensures { GoesOnWith A.seen F.stands_for table.now.table_id worker.seat worker.player worker.archive result.seat result.player result.archive }
+    requires archive { MayArchive A.seen A.gives worker.seat.me.0 worker.player worker.archive }
+    ensures { GoesOnWith A.seen A.gives F.stands_for table.now.table_id worker.seat worker.player worker.archive
+        result.seat result.player result.archive }
 {
     if refused.load(Ordering::SeqCst) != number {
         work(
@@ -83,9 +85,10 @@ fn start_one<
     worker: Worker<L, D, A, F>,
 ) -> Result<PromisedHandle<Worker<L, D, A, F>, FromWorker<L, D, A, F>>, Worker<L, D, A, F>>
     requires seat { IsPlayerSeat table.now.table_id worker.seat worker.player }
-    requires archive { MayArchive A.seen worker.seat.me.0 worker.player worker.archive }
+    requires archive { MayArchive A.seen A.gives worker.seat.me.0 worker.player worker.archive }
     ensures ok { IfOk result (λ handle. handle.promise.0.value ≡ worker) }
-    ensures err { IfErr result (λ back. GoesOnWith A.seen F.stands_for table.now.table_id worker.seat worker.player worker.archive back.seat back.player back.archive) }
+    ensures err { IfErr result (λ back. GoesOnWith A.seen A.gives F.stands_for table.now.table_id worker.seat
+        worker.player worker.archive back.seat back.player back.archive) }
 {
     if gate.refuses(number) {
         return Err(worker);
@@ -96,8 +99,9 @@ fn start_one<
         promise,
         move || -> Worker<L, D, A, F>
             requires seat { IsPlayerSeat table.now.table_id worker.seat worker.player }
-            requires archive { MayArchive A.seen worker.seat.me.0 worker.player worker.archive }
-            ensures { GoesOnWith A.seen F.stands_for table.entry.now.table_id worker.seat worker.player worker.archive result.seat result.player result.archive }
+            requires archive { MayArchive A.seen A.gives worker.seat.me.0 worker.player worker.archive }
+            ensures { GoesOnWith A.seen A.gives F.stands_for table.entry.now.table_id worker.seat worker.player
+                worker.archive result.seat result.player result.archive }
         { work_or_return(rt, table, bells, refused, gate, number, worker) },
     ) {
         Ok(handle) => Ok(handle),
@@ -132,10 +136,10 @@ fn start<
     mut archiver: Option<Worker<L, D, A, F>>,
 ) -> (Crew<L, D, F>, Option<Worker<L, D, A, F>>)
     requires seated { AreSeated table.now.table_id crew.seats.items crew.players.items }
-    requires archiver { MayWork A.seen table.now.table_id archiver }
+    requires archiver { MayWork A.seen A.gives table.now.table_id archiver }
     requires left { left ≤ length crew.players.items }
     ensures crew { KeepOn F.stands_for table.now.table_id crew result.0 }
-    ensures archiver { WorksOn A.seen F.stands_for table.now.table_id archiver result.1 }
+    ensures archiver { WorksOn A.seen A.gives F.stands_for table.now.table_id archiver result.1 }
 {
     if left == 0 {
         play_here(rt, table, bells, gate, &mut crew, &mut archiver);
@@ -181,9 +185,9 @@ fn start_all<
     archiver: Option<Worker<L, D, A, F>>,
 ) -> (Crew<L, D, F>, Option<Worker<L, D, A, F>>)
     requires seated { AreSeated table.now.table_id crew.seats.items crew.players.items }
-    requires archiver { MayWork A.seen table.now.table_id archiver }
+    requires archiver { MayWork A.seen A.gives table.now.table_id archiver }
     ensures crew { KeepOn F.stands_for table.now.table_id crew result.0 }
-    ensures archiver { WorksOn A.seen F.stands_for table.now.table_id archiver result.1 }
+    ensures archiver { WorksOn A.seen A.gives F.stands_for table.now.table_id archiver result.1 }
 {
     let left = crew.players.len();
     let Some(worker) = archiver else {
@@ -218,8 +222,8 @@ fn archiver_to_end<R: Wait, L: Sectors, D: Sectors, A: Sectors, F: Receiver, G: 
     gate: &G,
     archiver: &mut Option<Worker<L, D, A, F>>,
 )
-    requires { MayWork A.seen table.now.table_id archiver.old }
-    ensures goes_on { WorksOn A.seen F.stands_for table.now.table_id archiver.old archiver.new }
+    requires { MayWork A.seen A.gives table.now.table_id archiver.old }
+    ensures goes_on { WorksOn A.seen A.gives F.stands_for table.now.table_id archiver.old archiver.new }
     ensures at_end { AtItsEnd archiver.new }
 {
     if let Some(worker) = archiver {
@@ -252,10 +256,10 @@ pub(crate) fn play_all<
     archiver: Option<Worker<L, D, A, F>>,
 ) -> (Crew<L, D, F>, Option<Worker<L, D, A, F>>)
     requires seated { AreSeated table.now.table_id crew.seats.items crew.players.items }
-    requires archiver { MayWork A.seen table.now.table_id archiver }
+    requires archiver { MayWork A.seen A.gives table.now.table_id archiver }
     ensures goes_on { KeepOn F.stands_for table.now.table_id crew result.0 }
     ensures at_end { AreAtEnd result.0.players.items }
-    ensures archiver { WorksOn A.seen F.stands_for table.now.table_id archiver result.1 }
+    ensures archiver { WorksOn A.seen A.gives F.stands_for table.now.table_id archiver result.1 }
     ensures its_end { AtItsEnd result.1 }
 {
     let refused = AtomicU64::new(NOBODY);
@@ -265,9 +269,9 @@ pub(crate) fn play_all<
         rt,
         |all| -> (Crew<L, D, F>, Option<Worker<L, D, A, F>>)
             requires seated { AreSeated table.now.table_id crew.seats.items crew.players.items }
-            requires archiver { MayWork A.seen table.now.table_id archiver }
+            requires archiver { MayWork A.seen A.gives table.now.table_id archiver }
             ensures crew { KeepOn F.stands_for table.entry.now.table_id crew result.0 }
-            ensures archiver { WorksOn A.seen F.stands_for table.entry.now.table_id archiver result.1 }
+            ensures archiver { WorksOn A.seen A.gives F.stands_for table.entry.now.table_id archiver result.1 }
         { start_all(all, rt, table, bells, refused_at, gate, crew, archiver) },
     );
     to_ends::<R, L, D, A, F, G>(rt, table, bells, gate, &mut played);

@@ -124,8 +124,9 @@ fn turn<L: Sectors, D: Sectors, A: Sectors, F: Receiver, G: Gate>(
 ) -> (Step, Op)
     requires seat { IsPlayerSeat table.now.table_id seat.old player.old }
     requires asks { PlayerAsks seat.old.me.0 player.old op }
-    requires archive { MayArchive A.seen seat.old.me.0 player.old archive.old }
-    ensures goes_on { GoesOnWith A.seen F.stands_for table.now.table_id seat.old player.old archive.old seat.new player.new archive.new }
+    requires archive { MayArchive A.seen A.gives seat.old.me.0 player.old archive.old }
+    ensures goes_on { GoesOnWith A.seen A.gives F.stands_for table.now.table_id seat.old player.old archive.old seat.new
+        player.new archive.new }
     ensures asks { PlayerAsks seat.new.me.0 player.new result.1 }
 {
     let step = play_with(table, seat, player, archive, op);
@@ -145,8 +146,9 @@ pub(crate) fn stint<L: Sectors, D: Sectors, A: Sectors, F: Receiver, G: Gate>(
     archive: &mut Option<ArchPart<A>>,
 ) -> Option<bool>
     requires seat { IsPlayerSeat table.now.table_id seat.old player.old }
-    requires archive { MayArchive A.seen seat.old.me.0 player.old archive.old }
-    ensures { GoesOnWith A.seen F.stands_for table.now.table_id seat.old player.old archive.old seat.new player.new archive.new }
+    requires archive { MayArchive A.seen A.gives seat.old.me.0 player.old archive.old }
+    ensures { GoesOnWith A.seen A.gives F.stands_for table.now.table_id seat.old player.old archive.old seat.new
+        player.new archive.new }
 {
     let mut op = ask(table, seat, &*player);
     if is_at_end(&*player, op, bells) {
@@ -179,8 +181,9 @@ pub(crate) fn work<R: Wait, L: Sectors, D: Sectors, A: Sectors, F: Receiver, G: 
     archive: &mut Option<ArchPart<A>>,
 )
     requires seat { IsPlayerSeat table.now.table_id seat.old player.old }
-    requires archive { MayArchive A.seen seat.old.me.0 player.old archive.old }
-    ensures goes_on { GoesOnWith A.seen F.stands_for table.now.table_id seat.old player.old archive.old seat.new player.new archive.new }
+    requires archive { MayArchive A.seen A.gives seat.old.me.0 player.old archive.old }
+    ensures goes_on { GoesOnWith A.seen A.gives F.stands_for table.now.table_id seat.old player.old archive.old seat.new
+        player.new archive.new }
     ensures at_end { AtEnd player.new }
 {
     let mut pace = Pace::new(&*player, bells);

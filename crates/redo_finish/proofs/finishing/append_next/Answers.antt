@@ -44,13 +44,14 @@ returns-clause-finishes g c =
     let law = c.archive_finishes.ensures in
     let lacks = c.requires.finish in
     let less = c.requires.lacks in
-    appended_one g.L.Sectors.seen g.L.Sectors.gives g.A.Sectors.seen flushed c.args.log.now c.call_read.new.log part
-    c.append_block.new.part (call_code Log c.call_read.new.log.failed) c.call_read.new.room c.append_block.result lacks less
+    appended_one g.L.Sectors.seen g.L.Sectors.gives g.A.Sectors.seen g.A.Sectors.gives flushed c.args.log.now
+    c.call_read.new.log part c.append_block.new.part (call_code Log c.call_read.new.log.failed) c.call_read.new.room c.append_block.result lacks less
     live
     (law.may flushed part live less lacks)
-    (read_back g.L.Sectors.seen g.L.Sectors.gives g.A.Sectors.seen flushed (block_of part.marks.mark)
+    (read_back g.L.Sectors.seen g.L.Sectors.gives g.A.Sectors.seen g.A.Sectors.gives flushed (block_of part.marks.mark)
     (call_code Log c.call_read.new.log.failed)
     c.call_read.new.room _ c.args.log.now c.call_read.new.log log_live read c.call_read.ensures.calls)
-    read good appended (law.goes_on flushed part c.append_block.new.part c.append_block.result less appended lacks)
+    read good appended _ c.append_block.ensures.calls
+    (law.goes_on flushed part c.append_block.new.part c.append_block.result less appended lacks)
     (λ m pages wholes run boundary high block had. law.archives flushed m pages wholes part c.append_block.new.part
     c.call_read.new.room less lacks run boundary high block holds had)

@@ -4,8 +4,8 @@ use Rattle.redo_finish.proofs.Blocks.{both, nothing}
 use Rattle.redo_finish.proofs.finishing.finish_archive.Goals as goal
 
 pub loop-log-init : goal.loop-log-init
-loop-log-init g c = nothing g.L.Sectors.seen g.L.Sectors.gives g.A.Sectors.seen c.args.flushed c.args.log.now c.args.part.now
-    c.requires.finish
+loop-log-init g c = nothing g.L.Sectors.seen g.L.Sectors.gives g.A.Sectors.seen g.A.Sectors.gives c.args.flushed
+    c.args.log.now c.args.part.now c.requires.finish
 
 pub append_next-requires-clause-finish : goal.append_next-requires-clause-finish
 append_next-requires-clause-finish g c = c.loop-log.invariant.to_finish
@@ -17,7 +17,7 @@ append_next-requires-clause-started g c =
 pub returns-then-not-append_next-clause-finishes :
     goal.returns-then-not-append_next-clause-finishes
 returns-then-not-append_next-clause-finishes g c =
-    both g.L.Sectors.seen g.L.Sectors.gives g.A.Sectors.seen c.args.flushed c.args.log.now c.loop-log.log
+    both g.L.Sectors.seen g.L.Sectors.gives g.A.Sectors.seen g.A.Sectors.gives c.args.flushed c.args.log.now c.loop-log.log
     c.append_next.new.log c.args.part.now c.loop-log.part c.append_next.new.part c.loop-log.invariant
     c.append_next.ensures.finishes
 
@@ -26,7 +26,7 @@ loop-log-smaller g c = search rules
 
 pub loop-log-preserved : goal.loop-log-preserved
 loop-log-preserved g c =
-    both g.L.Sectors.seen g.L.Sectors.gives g.A.Sectors.seen c.args.flushed c.args.log.now c.loop-log.log
+    both g.L.Sectors.seen g.L.Sectors.gives g.A.Sectors.seen g.A.Sectors.gives c.args.flushed c.args.log.now c.loop-log.log
     c.append_next.new.log c.args.part.now c.loop-log.part c.append_next.new.part c.loop-log.invariant
     c.append_next.ensures.finishes
 

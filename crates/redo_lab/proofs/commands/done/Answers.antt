@@ -1,8 +1,9 @@
-use Rattle.std.proofs.Common.{ap, rules, subst, sym, ◌∙◌, Some}
+use Rattle.std.proofs.Common.{ap, refl, rules, subst, sym, ◌∙◌, Some}
 use Rattle.std.proofs.lemmas.Bool.{false≢true}
 use Rattle.model_script.specs.declared.asked.Command.{Command}
 use Rattle.redo_lab.proofs.Alone.{all-left}
 use Rattle.redo_lab.proofs.Sizes.{asked_within}
+use Rattle.redo_lab.proofs.Unarchived.{well-untouched}
 use Rattle.redo_lab.proofs.commands.done.Goals as goal
 use Rattle.redo_lab.specs.Asked.{calls_archive}
 use Rattle.redo_lab.specs.Allowed.{HasAllowedNumbers}
@@ -49,8 +50,23 @@ returns-in-Restore-clause-restores g c = λ words to is. c.restore_command.ensur
 pub returns-in-Gen-clause-restores : goal.returns-in-Gen-clause-restores
 returns-in-Gen-clause-restores g c = λ words to is. let was = c.in-Gen.is in cc
 
-pub returns-in-Restore-clause-untouched : goal.returns-in-Restore-clause-untouched
-returns-in-Restore-clause-untouched g c = λ calls. absurd (false≢true (sym calls ∙ ap (λ (command : Command). calls_archive (Some command)) c.in-Restore.is))
+pub returns-in-Format-clause-archive : goal.returns-in-Format-clause-archive
+returns-in-Format-clause-archive g c = (λ calls. refl, well-untouched g.A.Sectors.gives c.args.arch _)
+
+pub returns-in-Recover-clause-archive : goal.returns-in-Recover-clause-archive
+returns-in-Recover-clause-archive g c = (λ calls. refl, well-untouched g.A.Sectors.gives c.args.arch _)
+
+pub returns-in-Dump-clause-archive : goal.returns-in-Dump-clause-archive
+returns-in-Dump-clause-archive g c = (λ calls. refl, well-untouched g.A.Sectors.gives c.args.arch _)
+
+pub returns-in-Gen-clause-archive : goal.returns-in-Gen-clause-archive
+returns-in-Gen-clause-archive g c = (λ calls. refl, well-untouched g.A.Sectors.gives c.args.arch _)
+
+pub returns-in-Restore-clause-archive : goal.returns-in-Restore-clause-archive
+returns-in-Restore-clause-archive g c = (
+  λ calls. absurd (false≢true (sym calls ∙ ap (λ (command : Command). calls_archive (Some command)) c.in-Restore.is)),
+  c.restore_command.ensures.well,
+)
 
 pub returns-in-Format-clause-entered : goal.returns-in-Format-clause-entered
 returns-in-Format-clause-entered g c = c.format_devices.ensures.entered
@@ -88,14 +104,21 @@ returns-in-Restore-clause-taken g c = all-left (g.S.Source.seen c.args.src.now).
 pub returns-in-Gen-clause-taken : goal.returns-in-Gen-clause-taken
 returns-in-Gen-clause-taken g c = all-left (g.S.Source.seen c.args.src.now).left
 
-pub returns-in-Run-clause-untouched : goal.returns-in-Run-clause-untouched
-returns-in-Run-clause-untouched g c = λ calls. c.source_by_turns.ensures.archive.1 (sym (ap (λ (command : Command). calls_archive (Some command)) c.in-Run.is) ∙ calls)
+pub returns-in-Run-clause-archive : goal.returns-in-Run-clause-archive
+returns-in-Run-clause-archive g c = (
+  λ calls. c.source_by_turns.ensures.archive.1
+      (sym (ap (λ (command : Command). calls_archive (Some command)) c.in-Run.is) ∙ calls),
+  c.source_by_turns.ensures.well,
+)
 
 pub returns-in-Run-clause-spares : goal.returns-in-Run-clause-spares
 returns-in-Run-clause-spares g c = λ drive is. c.source_by_turns.ensures.archive.0
 
-pub returns-in-Crash-clause-untouched : goal.returns-in-Crash-clause-untouched
-returns-in-Crash-clause-untouched g c = λ calls. c.source_by_turns-in-Crash.ensures.archive.1 (subst HasAllowedNumbers c.in-Crash.is c.requires.within).1
+pub returns-in-Crash-clause-archive : goal.returns-in-Crash-clause-archive
+returns-in-Crash-clause-archive g c = (
+  λ calls. c.source_by_turns-in-Crash.ensures.archive.1 (subst HasAllowedNumbers c.in-Crash.is c.requires.within).1,
+  c.source_by_turns-in-Crash.ensures.well,
+)
 
 pub returns-in-Format-clause-spares : goal.returns-in-Format-clause-spares
 returns-in-Format-clause-spares g c = λ drive is. let was = c.in-Format.is in cc

@@ -1,9 +1,9 @@
 use Rattle.std.proofs.Common.{ap, refl}
 use Rattle.redo_lab.proofs.Alone.{scripted-unscripted}
 use Rattle.redo_lab.proofs.AskedLimits.{within-followers, within-run, within-workers}
-use Rattle.redo_lab.proofs.Begun.{back-is, back-kept, back-unfused, handed-on, handed-one}
+use Rattle.redo_lab.proofs.Begun.{back-is, back-kept, back-unfused, handed-on, handed-one, well-back}
 use Rattle.redo_lab.proofs.Ends.{runs-scripted}
-use Rattle.redo_lab.proofs.Unarchived.{spares-either, spares-untouched}
+use Rattle.redo_lab.proofs.Unarchived.{spares-either, spares-untouched, well-untouched}
 use Rattle.redo_lab.specs.Call.{unfused}
 use Rattle.redo_lab.specs.Runs.{SparedBy, command_with}
 use Rattle.redo_lab.proofs.commands.source_in_threads.Goals as goal
@@ -53,6 +53,18 @@ returns-in-Ok-clause-archive g c =
       λ alone. kept alone c.take_back.ensures.kept,
     )
 
+pub returns-in-Ok-clause-well : goal.returns-in-Ok-clause-well
+returns-in-Ok-clause-well g c =
+    let asked = c.args.asked in
+    let course = c.in_threads-ran.result.0.course in
+    well-back g.A.Sectors.seen (SparedBy course) c.args.arch g.A.Sectors.gives course asked.drive.archive
+    c.hand_on-on.result.0 c.in_threads-ran.result.1 c.take_back.result c.after_run-done.result.outcome
+    c.hand_on-on.ensures.on c.in_threads-ran.ensures.given_back c.take_back.ensures.left
+    (λ alone. back-kept g.A.Sectors.seen (SparedBy course) c.args.arch asked.drive.archive c.hand_on-on.result.1
+    c.take_back.result c.hand_on-on.ensures.kept alone c.take_back.ensures.kept)
+    (λ archived. c.after_run-done.ensures.uncut (within-run asked.drive asked.crash c.requires.within archived))
+    c.in_threads-ran.ensures.well
+
 pub returns-in-Ok-clause-entered : goal.returns-in-Ok-clause-entered
 returns-in-Ok-clause-entered g c = c.after_run-done.ensures.entered c.args.log c.args.store c.in_threads-ran.ensures.entered
 
@@ -67,6 +79,9 @@ returns-in-Err-clause-ends g c = λ words.
 
 pub returns-in-Err-clause-archive : goal.returns-in-Err-clause-archive
 returns-in-Err-clause-archive g c = (spares-untouched (unfused g.A.Sectors.seen c.args.arch c.args.arch) _ refl, λ alone. refl)
+
+pub returns-in-Err-clause-well : goal.returns-in-Err-clause-well
+returns-in-Err-clause-well g c = well-untouched g.A.Sectors.gives c.args.arch _
 
 pub returns-in-Err-clause-entered : goal.returns-in-Err-clause-entered
 returns-in-Err-clause-entered g c = c.unasked.ensures.entered

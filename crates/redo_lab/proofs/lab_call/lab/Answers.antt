@@ -18,7 +18,8 @@ lab_turns-requires-clause-within g c = λ κs live. command-of-within _ c.in-Ok.
 pub returns-in-Err-clause-call : goal.returns-in-Err-clause-call
 returns-in-Err-clause-call g c =
     let unasked = c.unasked.ensures in
-    rw (c.end.ensures.log, c.end.ensures.store, c.end.ensures.arch) (nothing-ends _ _ _ _ c.in-Err.fault c.in-Err.ensures.fault refl (
+    rw (c.end.ensures.log, c.end.ensures.store, c.end.ensures.arch)
+    (nothing-ends _ _ _ _ _ c.in-Err.fault c.in-Err.ensures.fault refl (
       record { seen = ap g.L.Sectors.seen unasked.log_inner; fuse = unasked.log_fuse },
       record { seen = ap g.D.Sectors.seen unasked.data_inner; fuse = unasked.data_fuse },
     )
@@ -36,6 +37,7 @@ returns-in-Some-clause-call g c =
           ends = rw is.0 (c.source_in_threads-done.ensures.ends _);
           restores = λ to restore. absurd (never-restores c.in-Some.asked.drive c.in-Some.asked.crash to (sym is.0 ∙ restore));
           spares = λ drive run. c.source_in_threads-done.ensures.archive.0;
+          well = c.source_in_threads-done.ensures.well;
           printed = c.end-in-Some.ensures.printed;
         },
       );

@@ -1,4 +1,4 @@
-use Rattle.std.proofs.Common.{inr}
+use Rattle.std.proofs.Common.{inr, ◌∙◌}
 use Rattle.redo_lab.proofs.lab_call.lab_turns.Goals as goal
 
 pub returns-clause-call : goal.returns-clause-call
@@ -11,6 +11,7 @@ returns-clause-call g c = λ words asked. rw (c.end.ensures.log, c.end.ensures.s
       ends = c.done-done.ensures.ends words;
       restores = c.done-done.ensures.restores words;
       spares = c.done-done.ensures.spares;
+      well = c.done-done.ensures.archive.1;
       printed = c.end.ensures.printed;
     },
   );
@@ -19,3 +20,6 @@ returns-clause-call g c = λ words asked. rw (c.end.ensures.log, c.end.ensures.s
 
 pub returns-clause-entered : goal.returns-clause-entered
 returns-clause-entered g c = rw (c.end.ensures.log, c.end.ensures.store) c.done-done.ensures.entered
+
+pub returns-clause-untouched : goal.returns-clause-untouched
+returns-clause-untouched g c = λ uncalled. c.end.ensures.arch ∙ c.done-done.ensures.archive.0 uncalled

@@ -4,7 +4,7 @@ use Rattle.std.proofs.lemmas.Result.{IfOk-weaker}
 use Rattle.redo_drive.specs.Views.{views_of}
 use Rattle.redo_lab.proofs.Begun.{begun-so}
 use Rattle.redo_lab.proofs.ByDrive.{tells-turns}
-use Rattle.redo_lab.proofs.Closed.{after-comes, after-entered, after-finish, after-given, after-started}
+use Rattle.redo_lab.proofs.Closed.{after-comes, after-entered, after-finish, after-given, after-started, after-well}
 use Rattle.redo_lab.proofs.playing.by_turns_with.Goals as goal
 
 -- it isn't begun
@@ -17,20 +17,33 @@ returns-in-Err-clause-comes_to g c = λ words archive source source_now command 
 
 pub close_run-requires-clause-finish : goal.close_run-requires-clause-finish
 close_run-requires-clause-finish g c = after-finish g.L.Sectors.seen g.L.Sectors.gives g.D.Sectors.seen g.D.Sectors.gives g.A.Sectors.seen
-    c.args.drive.now c.args.script.now c.args.arch c.in-Ok.begun c.in-Ok.ensures.begun c.run_turns-after.result c.run_turns-after.ensures.owed c.run_turns-after.ensures.archived
+    g.A.Sectors.gives c.args.drive.now c.args.script.now c.args.arch c.in-Ok.begun c.in-Ok.ensures.begun
+    c.run_turns-after.result c.run_turns-after.ensures.owed c.run_turns-after.ensures.archived
 
 pub close_run-requires-clause-started : goal.close_run-requires-clause-started
 close_run-requires-clause-started g c = after-started g.L.Sectors.seen g.L.Sectors.gives g.D.Sectors.seen g.D.Sectors.gives g.A.Sectors.seen
-    c.args.drive.now c.args.script.now c.args.arch c.in-Ok.begun c.in-Ok.ensures.begun c.run_turns-after.result c.run_turns-after.ensures.owed c.run_turns-after.ensures.archived
+    g.A.Sectors.gives c.args.drive.now c.args.script.now c.args.arch c.in-Ok.begun c.in-Ok.ensures.begun
+    c.run_turns-after.result c.run_turns-after.ensures.owed c.run_turns-after.ensures.archived
 
 pub returns-clause-given_back : goal.returns-clause-given_back
 returns-clause-given_back g c = after-given g.L.Sectors.seen g.L.Sectors.gives g.D.Sectors.seen g.D.Sectors.gives g.A.Sectors.seen
-    c.args.drive.now c.args.script.now c.args.arch c.in-Ok.begun c.in-Ok.ensures.begun c.archive_reads.ensures c.close_run.result.0 c.close_run.result.1
+    g.A.Sectors.gives c.args.drive.now c.args.script.now c.args.arch c.in-Ok.begun c.in-Ok.ensures.begun
+    c.archive_reads.ensures c.close_run.result.0 c.close_run.result.1
     c.run_turns-after.result c.run_turns-after.ensures.owed c.run_turns-after.ensures.archived c.run_turns-after.ensures.err c.close_run.ensures.closed c.close_run.ensures.unrun
+
+pub returns-clause-well : goal.returns-clause-well
+returns-clause-well g c = after-well g.L.Sectors.seen g.L.Sectors.gives g.D.Sectors.seen g.D.Sectors.gives
+    g.A.Sectors.seen
+    g.A.Sectors.gives c.args.drive.now c.args.script.now c.args.arch c.in-Ok.begun c.in-Ok.ensures.begun
+    c.archive_reads.ensures
+    c.close_run.result.0 c.close_run.result.1 c.run_turns-after.result c.run_turns-after.ensures.owed
+    c.run_turns-after.ensures.archived c.run_turns-after.ensures.err c.close_run.ensures.closed
+    c.close_run.ensures.unrun
 
 pub returns-clause-entered : goal.returns-clause-entered
 returns-clause-entered g c = after-entered g.L.Sectors.seen g.L.Sectors.gives g.D.Sectors.seen g.D.Sectors.gives g.A.Sectors.seen
-    c.args.drive.now c.args.script.now c.args.arch c.in-Ok.begun c.in-Ok.ensures.begun c.archive_reads.ensures c.close_run.result.0 c.close_run.result.1
+    g.A.Sectors.gives c.args.drive.now c.args.script.now c.args.arch c.in-Ok.begun c.in-Ok.ensures.begun
+    c.archive_reads.ensures c.close_run.result.0 c.close_run.result.1
     c.run_turns-after.result c.run_turns-after.ensures.owed c.run_turns-after.ensures.archived c.run_turns-after.ensures.err c.close_run.ensures.closed c.close_run.ensures.unrun
     c.args.log c.args.store c.in-Ok.ensures.entered
 
@@ -41,14 +54,16 @@ returns-clause-comes_to g c = λ words archive source source_now command running
     let script = c.args.script.now in
     let given = c.in-Ok.begun.opened in
     after-comes g.L.Sectors.seen g.L.Sectors.gives g.D.Sectors.seen g.D.Sectors.gives g.A.Sectors.seen
-    drive script c.args.arch c.in-Ok.begun has c.archive_reads.ensures c.close_run.result.0 c.close_run.result.1
+    g.A.Sectors.gives drive script c.args.arch c.in-Ok.begun has c.archive_reads.ensures c.close_run.result.0
+    c.close_run.result.1
     words archive source source_now c.args.log c.args.store command c.args.stops running c.laws.ensures c.requires.archives
     c.run_turns-after.result c.run_turns-after.ensures.owed c.run_turns-after.ensures.archived c.run_turns-after.ensures.err c.close_run.ensures.closed c.close_run.ensures.unrun
     (c.in-Ok.ensures.ready words archive source source_now command running only)
     (IfOk-weaker c.run_turns-after.result _ _
     (λ left told. tells-turns g.L.Sectors.seen g.L.Sectors.gives g.D.Sectors.seen g.D.Sectors.gives drive given script (views_of left.1.items) left.0 is told)
     (c.run_turns-after.ensures.tells has.untold.count_is
-    (begun-so g.A.Sectors.seen given c.args.arch c.in-Ok.begun.archive has.archive ∙ c.requires.archives)))
+    (begun-so g.A.Sectors.seen given g.A.Sectors.gives c.args.arch c.in-Ok.begun.archive has.archive
+    ∙ c.requires.archives)))
     (λ threads. absurd (false≢true (sym is ∙ threads)))
     c.run_turns-after.ensures.followed
     same

@@ -4,7 +4,7 @@ use Rattle.redo_archive.specs.declared.restored.RestoreFault.{RestoreFault}
 use Rattle.redo_archive.specs.{device_error_of}
 use Rattle.redo_lab.proofs.Alone.{IsLeftAlone}
 use Rattle.redo_lab.specs.Call.{guarded}
-use Rattle.redo_lab.proofs.Restoring.{restored-ends, unrestored-ends}
+use Rattle.redo_lab.proofs.Restoring.{restored-ends, restored-well, unrestored-ends}
 use Rattle.redo_lab.proofs.restore_command.restore_command.Goals as goal
 use Rattle.redo_lab.proofs.restore_command.restore_command.Goals.{in-Ok, in-Err}
 
@@ -32,6 +32,14 @@ returns-clause-restores g c = λ words source source_now.
     elim c.match-restore.branch [
       | in-Ok w ↦ (w.in-Ok.ensures.reads.unchanged.tells, same)
       | in-Err w ↦ (w.in-Err.ensures.reads.unchanged.tells, same)
+    ]
+
+pub returns-clause-well : goal.returns-clause-well
+returns-clause-well g c =
+    elim c.match-restore.branch [
+      | in-Ok w ↦ rw (w.outcome-is, w.of_text-outcome.ensures)
+          (restored-well g.A.Sectors.gives c.args.arch _ w.text_of.result w.in-Ok.ensures.reads.calls)
+      | in-Err w ↦ rw w.outcome-is tt
     ]
 
 pub returns-clause-entered : goal.returns-clause-entered

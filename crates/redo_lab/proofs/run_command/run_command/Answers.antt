@@ -1,7 +1,7 @@
 use Rattle.std.proofs.Common.{None, inl, inr}
 use Rattle.model_script.specs.declared.asked.Command.TheVariants.{Run}
 use Rattle.redo_lab.proofs.Ends.{runs-scripted, uncrashing-run}
-use Rattle.redo_lab.proofs.RunEnds.{ends-stopped, run-played, spares-printed}
+use Rattle.redo_lab.proofs.RunEnds.{ends-stopped, run-played, spares-printed, uncut-printed}
 use Rattle.redo_lab.proofs.run_command.run_command.Goals as goal
 use Rattle.redo_lab.proofs.run_command.run_command.Goals.{in-Ended2, in-Played}
 
@@ -28,4 +28,12 @@ returns-clause-spares g c = λ archive spared.
         | inr stopped ↦ rw stopped at spared
       ])
       | in-Played w ↦ rw w.outcome-is (spares-printed archive c.args.script.now w.in-Played.played w.in-Played.fault w.print_run-outcome.result w.print_run-outcome.ensures)
+    ]
+
+pub returns-clause-uncut : goal.returns-clause-uncut
+returns-clause-uncut g c =
+    elim c.match-course.branch [
+      | in-Ended2 w ↦ rw w.outcome-is tt
+      | in-Played w ↦ rw (w.outcome-is, w.in-Played.is) (uncut-printed c.args.script.now w.in-Played.played
+          w.in-Played.fault w.print_run-outcome.result w.print_run-outcome.ensures)
     ]

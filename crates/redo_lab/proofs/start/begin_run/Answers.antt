@@ -1,7 +1,9 @@
-use Rattle.std.proofs.Common.{refl, ◌∙◌}
-use Rattle.redo_lab.proofs.Begun.{archive-room, archive-sized, archive-start, begun-new, given-same, given-unbegun, unbegun-comes}
+use Rattle.std.proofs.Common.{Some, refl, ◌∙◌}
+use Rattle.redo_lab.proofs.Begun.{archive-room, archive-sized, archive-start, begun-new, cut-well, given-same}
+use Rattle.redo_lab.proofs.Begun.{given-unbegun, same-well, unbegun-comes}
 use Rattle.redo_lab.proofs.Opening.{unplayed-memory}
 use Rattle.redo_lab.proofs.start.begin_run.Goals as goal
+use Rattle.redo_lab.specs.declared.playing.Course.TheVariants as course
 
 -- the store isn't opened
 
@@ -12,6 +14,9 @@ returns-in-Err-clause-ready g c = λ words archive source source_now command run
 
 pub returns-in-Err-clause-given_back : goal.returns-in-Err-clause-given_back
 returns-in-Err-clause-given_back g c = given-same g.A.Sectors.seen c.in-Err.ran.course c.args.arch
+
+pub returns-in-Err-clause-well : goal.returns-in-Err-clause-well
+returns-in-Err-clause-well g c = same-well g.A.Sectors.gives c.in-Err.ran.course c.args.arch
 
 pub returns-in-Err-clause-entered : goal.returns-in-Err-clause-entered
 returns-in-Err-clause-entered g c = c.in-Err.ensures.entered
@@ -27,6 +32,9 @@ returns-in_default-clause-ready g c = λ words archive source source_now command
 
 pub returns-in_default-clause-given_back : goal.returns-in_default-clause-given_back
 returns-in_default-clause-given_back g c = given-same g.A.Sectors.seen c.unbegun.result.course c.args.arch
+
+pub returns-in_default-clause-well : goal.returns-in_default-clause-well
+returns-in_default-clause-well g c = same-well g.A.Sectors.gives c.unbegun.result.course c.args.arch
 
 pub returns-in_default-clause-entered : goal.returns-in_default-clause-entered
 returns-in_default-clause-entered g c = rw (c.unbegun.ensures.log, c.unbegun.ensures.store) c.in-Ok.ensures.entered
@@ -49,7 +57,8 @@ returns-in-Ok-begin_on-clause-begun g c = record {
   untold = c.in-Ok-make_followers.ensures.untold;
   room = c.in-Ok-make_followers.ensures.room;
   archive = c.in-Ok-begin_on.ensures.begun;
-  new_archive = begun-new g.A.Sectors.seen c.in-Ok.opened c.args.script.now c.args.arch c.in-Ok-begin_on.archive c.in-Ok-begin_on.ensures.begun
+  new_archive = begun-new g.A.Sectors.seen c.in-Ok.opened g.A.Sectors.gives c.args.script.now c.args.arch
+      c.in-Ok-begin_on.archive c.in-Ok-begin_on.ensures.begun
       (rw c.room_on-room.ensures at c.in-Ok.ensures.archive_fits);
 }
 
@@ -74,6 +83,11 @@ returns-in-Err-begin_on-clause-ready g c = λ words archive source source_now co
 pub returns-in-Err-begin_on-clause-given_back : goal.returns-in-Err-begin_on-clause-given_back
 returns-in-Err-begin_on-clause-given_back g c = rw c.unbegun-in-Err-begin_on.ensures.course
     (given-unbegun g.A.Sectors.seen c.args.arch c.in-Err-begin_on.fault c.in-Err-begin_on.arch c.in-Err-begin_on.ensures.fault)
+
+pub returns-in-Err-begin_on-clause-well : goal.returns-in-Err-begin_on-clause-well
+returns-in-Err-begin_on-clause-well g c = rw c.unbegun-in-Err-begin_on.ensures.course
+    (cut-well g.A.Sectors.gives (course.Ended c.in-Err-begin_on.fault) (λ uncut. uncut) c.args.arch
+    (Some c.in-Err-begin_on.arch))
 
 pub returns-in-Err-begin_on-clause-entered : goal.returns-in-Err-begin_on-clause-entered
 returns-in-Err-begin_on-clause-entered g c = rw (c.unbegun-in-Err-begin_on.ensures.log, c.unbegun-in-Err-begin_on.ensures.store) c.in-Ok.ensures.entered

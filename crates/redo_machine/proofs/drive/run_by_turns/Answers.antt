@@ -26,22 +26,23 @@ finish-closed-requires g c = let O = c.run-ended.ensures.on_run in
 -- the archive comes to the end with the run
 came : (g : given.Over) (c : goal.After-finish-closed g)
     → (let B = c.in_ok-machine.ensures.begins in
-    ComesFrom g.L.Sectors.seen g.D.Sectors.seen g.A.Sectors.seen g.R.Receiver.stands_for B.run (is_some c.args.archive)
-    c.in_ok-machine.machine.actors.items c.args.archive c.run-ended.new.self)
+    ComesFrom g.L.Sectors.seen g.D.Sectors.seen g.A.Sectors.seen g.A.Sectors.gives g.R.Receiver.stands_for B.run
+    (is_some c.args.archive) c.in_ok-machine.machine.actors.items c.args.archive c.run-ended.new.self)
 came g c =
     let B = c.in_ok-machine.ensures.begins in
     c.run-ended.ensures.from B.run (is_some c.args.archive) c.in_ok-machine.machine.actors.items c.args.archive (record {
       from = B.from;
-      come = subst (λ (a : Option (Part g.row.A.Denot)). HasComeTo g.L.Sectors.seen g.D.Sectors.seen g.A.Sectors.seen B.run
-          c.in_ok-machine.machine.parts (views_of c.in_ok-machine.machine.actors.items) B.from.runs c.args.archive a)
+      come = subst (λ (a : Option (Part g.row.A.Denot)). HasComeTo g.L.Sectors.seen g.D.Sectors.seen g.A.Sectors.seen
+          g.A.Sectors.gives B.run c.in_ok-machine.machine.parts (views_of c.in_ok-machine.machine.actors.items)
+          B.from.runs c.args.archive a)
           (sym c.in_ok-machine.ensures.archive)
           (comes g.L.Sectors.seen g.D.Sectors.seen g.A.Sectors.seen g.R.Receiver.stands_for c.args.opened c.args.script.now
-          c.args.turns.now.log_only (is_some c.args.archive) c.args.followers.items _ B c.requires.may c.args.archive refl
-          c.requires.archive);
+          c.args.turns.now.log_only (is_some c.args.archive) c.args.followers.items _ B c.requires.may g.A.Sectors.gives
+          c.args.archive refl c.requires.archive);
     })
 
 leads : (g : given.Over) (c : goal.After-finish-closed g)
-    → TurnsLead g.L.Sectors.seen g.L.Sectors.gives g.D.Sectors.seen g.D.Sectors.gives g.A.Sectors.seen
+    → TurnsLead g.L.Sectors.seen g.L.Sectors.gives g.D.Sectors.seen g.D.Sectors.gives g.A.Sectors.seen g.A.Sectors.gives
     g.R.Receiver.stands_for c.args.opened c.args.script.now c.args.turns.now c.args.archive
     c.args.followers.items c.run-ended.new.self.actors.items
     (record { ended = c.run-ended.result; closed = c.finish-closed.result.0 }) c.run-ended.new.self.archive
@@ -111,10 +112,12 @@ returns-clause-followed g c =
 pub returns-clause-archived : goal.returns-clause-archived
 returns-clause-archived g c =
     subst (λ (a : Option (Part g.row.A.Denot)). HaveArchived g.L.Sectors.seen g.D.Sectors.seen g.A.Sectors.seen
-    c.args.opened c.args.script.now c.finish-closed.result.0 (views_of c.finish-closed.result.1.items) c.args.archive a)
+    g.A.Sectors.gives c.args.opened c.args.script.now c.finish-closed.result.0 (views_of c.finish-closed.result.1.items)
+    c.args.archive a)
     (sym c.finish-closed.ensures.kept.1)
     (subst (λ (actors : List (Actor g.row.R.Denot)). HaveArchived g.L.Sectors.seen g.D.Sectors.seen g.A.Sectors.seen
-    c.args.opened c.args.script.now c.finish-closed.result.0 (views_of actors) c.args.archive c.run-ended.new.self.archive)
+    g.A.Sectors.gives c.args.opened c.args.script.now c.finish-closed.result.0 (views_of actors) c.args.archive
+    c.run-ended.new.self.archive)
     (sym c.finish-closed.ensures.kept.0) (archived g.L.Sectors.seen g.L.Sectors.gives g.D.Sectors.seen g.D.Sectors.gives g.A.Sectors.seen
     g.R.Receiver.stands_for c.args.opened c.args.script.now
     c.args.turns.now c.args.archive c.args.followers.items c.run-ended.new.self.actors.items _

@@ -29,8 +29,8 @@ returns-in-Append-clause-served g c = λ run.
     c.took.ensures in
     record {
       served = s.0;
-      archives = subst (λ (r : Answer). ServesArchive g.A.Sectors.seen c.args.archive.now actor r c.append-answer.new.archive)
-          (sym s.1) (inl h);
+      archives = subst (λ (r : Answer). ServesArchive g.A.Sectors.seen g.A.Sectors.gives c.args.archive.now actor r
+          c.append-answer.new.archive) (sym s.1) (inl h);
     }
 
 pub returns-in-Append-clause-asked : goal.returns-in-Append-clause-asked

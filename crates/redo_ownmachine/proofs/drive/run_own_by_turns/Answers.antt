@@ -22,12 +22,14 @@ finish-closed-requires-clause-room g c = has_still_room c.in_ok-machine.machine 
 
 leads : (g : given.Over) (c : goal.After-finish-closed g)
     → OwnTurnsLead g.L.Sectors.seen g.L.Sectors.gives g.D.Sectors.seen g.D.Sectors.gives g.A.Sectors.seen
+    g.A.Sectors.gives
     g.R.Receiver.stands_for c.args.opened c.args.script.now c.args.turns.now c.args.archive c.args.followers.items
     c.finish-closed.result.1.items (record { ended = c.run-ended.result; closed = c.finish-closed.result.0 })
 leads g c =
     let B = c.in_ok-machine.ensures.begins in
     let comes = c.run-ended.ensures.from B.begins.run (is_some c.args.archive) B.start.actors.items c.args.archive
-    (from_start g.L.Sectors.seen g.D.Sectors.seen g.A.Sectors.seen g.R.Receiver.stands_for c.args.opened
+    (from_start g.L.Sectors.seen g.D.Sectors.seen g.A.Sectors.seen g.A.Sectors.gives g.R.Receiver.stands_for
+    c.args.opened
     c.args.script.now c.args.turns.now.log_only c.args.archive c.args.followers.items c.in_ok-machine.machine B
     c.requires.may c.requires.archive c.in_ok-machine.ensures.archive) in
     let R = comes.from.runs in
@@ -78,7 +80,8 @@ pub returns-clause-archived : goal.returns-clause-archived
 unfolding leads
 returns-clause-archived g c =
     subst (λ (a : Option (Part g.row.A.Denot)). HaveArchived g.L.Sectors.seen g.D.Sectors.seen g.A.Sectors.seen
-    c.args.opened c.args.script.now c.finish-closed.result.0 (views_of c.finish-closed.result.1.items) c.args.archive a)
+    g.A.Sectors.gives c.args.opened c.args.script.now c.finish-closed.result.0 (views_of c.finish-closed.result.1.items)
+    c.args.archive a)
     (sym c.finish-closed.ensures.kept.1)
     (archived g.L.Sectors.seen g.L.Sectors.gives g.D.Sectors.seen g.D.Sectors.gives g.A.Sectors.seen
     g.R.Receiver.stands_for c.args.opened c.args.script.now c.args.turns.now c.args.archive c.args.followers.items

@@ -4,6 +4,7 @@ use Rattle.model_core.specs.Actors as model
 use Rattle.model_core.specs.declared.ops.Answer.{Answer}
 use Rattle.model_core.specs.declared.ops.Op.TheVariants as op
 use Rattle.redo_archiver.specs.{append_answer, IsAppended, KeepsBlock}
+use Rattle.redo_disk.proofs.Made.{serves_end}
 use Rattle.redo_disk.specs.declared.error.DevError.{DevError}
 use Rattle.redo_drive.specs.Views.{view_of}
 use Rattle.redo_drive.specs.declared.actor.Actor.{Actor}
@@ -29,6 +30,10 @@ returns g c =
         mark = mark;
         asks = asks;
         appended = appended;
+        calls = record {
+          live = λ none. serves_end c.append_block.ensures.calls;
+          over = λ some. absurd (some c.requires.may.live);
+        };
         pace = λ limit flushed filling. c.archiver_appends.ensures.pace limit flushed mark r old new filling
             (append_answer new.failed) asks appended;
         archives = λ limit flushed pages early late pace run full kept. c.archiver_appends.ensures.archives limit flushed

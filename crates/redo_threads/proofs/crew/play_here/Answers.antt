@@ -5,8 +5,8 @@ use Rattle.redo_threads.proofs.crew.play_here.Goals as goal
 pub loop-init : goal.loop-init
 loop-init g c = record {
   crew = keep_refl g.F.Receiver.stands_for c.args.table.now.table_id c.args.crew.now c.requires.seated;
-  archiver = works_refl g.F.Receiver.stands_for c.args.table.now.table_id g.A.Sectors.seen c.args.archiver.now
-      c.requires.archiver;
+  archiver = works_refl g.F.Receiver.stands_for c.args.table.now.table_id g.A.Sectors.seen g.A.Sectors.gives
+      c.args.archiver.now c.requires.archiver;
 }
 
 pub returns-in-None-either-clause-crew : goal.returns-in-None-either-clause-crew
@@ -14,7 +14,8 @@ returns-in-None-either-clause-crew g c = keep_trans g.F.Receiver.stands_for c.ar
     c.round-others.new.crew c.loop.invariant.crew c.round-others.ensures
 
 pub returns-in-None-either-clause-archiver : goal.returns-in-None-either-clause-archiver
-returns-in-None-either-clause-archiver g c = works_trans g.F.Receiver.stands_for c.args.table.now.table_id g.A.Sectors.seen
+returns-in-None-either-clause-archiver g c = works_trans g.F.Receiver.stands_for c.args.table.now.table_id
+    g.A.Sectors.seen g.A.Sectors.gives
     c.args.archiver.now c.loop.archiver c.archiver_round-its.new.archiver c.loop.invariant.archiver
     c.archiver_round-its.ensures
 
@@ -22,7 +23,7 @@ pub loop-preserved-in-Some-true : goal.loop-preserved-in-Some-true
 loop-preserved-in-Some-true g c = record {
   crew = keep_trans g.F.Receiver.stands_for c.args.table.now.table_id c.args.crew.now c.loop.crew
       c.round-others.new.crew c.loop.invariant.crew c.round-others.ensures;
-  archiver = works_trans g.F.Receiver.stands_for c.args.table.now.table_id g.A.Sectors.seen
+  archiver = works_trans g.F.Receiver.stands_for c.args.table.now.table_id g.A.Sectors.seen g.A.Sectors.gives
       c.args.archiver.now c.loop.archiver c.archiver_round-its.new.archiver c.loop.invariant.archiver
       c.archiver_round-its.ensures;
 }
@@ -31,7 +32,7 @@ pub loop-preserved : goal.loop-preserved
 loop-preserved g c = record {
   crew = keep_trans g.F.Receiver.stands_for c.args.table.now.table_id c.args.crew.now c.loop.crew
       c.round-others.new.crew c.loop.invariant.crew c.round-others.ensures;
-  archiver = works_trans g.F.Receiver.stands_for c.args.table.now.table_id g.A.Sectors.seen
+  archiver = works_trans g.F.Receiver.stands_for c.args.table.now.table_id g.A.Sectors.seen g.A.Sectors.gives
       c.args.archiver.now c.loop.archiver c.archiver_round-its.new.archiver c.loop.invariant.archiver
       c.archiver_round-its.ensures;
 }
@@ -42,4 +43,4 @@ round-others-requires-after_bounds g c κs within =
 
 pub archiver_round-its-requires-after_bounds : goal.archiver_round-its-requires-after_bounds
 archiver_round-its-requires-after_bounds g c κs within = work_still g.F.Receiver.stands_for c.args.table.now.table_id
-    g.A.Sectors.seen c.args.archiver.now c.loop.archiver c.requires.archiver c.loop.invariant.archiver
+    g.A.Sectors.seen g.A.Sectors.gives c.args.archiver.now c.loop.archiver c.requires.archiver c.loop.invariant.archiver

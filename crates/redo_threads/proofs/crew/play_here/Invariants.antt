@@ -5,5 +5,6 @@ use Rattle.redo_threads.proofs.crew.play_here.Given as goal
 abbrev pub invariant-loop : goal.invariant-loop
 invariant-loop g l = record {
   crew : KeepOn g.F.Receiver.stands_for l.table.table_id l.fn.crew l.crew;
-  archiver : WorksOn g.A.Sectors.seen g.F.Receiver.stands_for l.table.table_id l.fn.archiver l.archiver;
+  archiver : WorksOn g.A.Sectors.seen g.A.Sectors.gives g.F.Receiver.stands_for l.table.table_id l.fn.archiver
+      l.archiver;
 }

@@ -86,5 +86,5 @@ returns-clause-archived g c =
     let new = c.in-Ok.ensures.new in
     archived g.L.Sectors.seen g.L.Sectors.gives g.D.Sectors.seen g.D.Sectors.gives (opened_of shared) c.args.opened
     (shared_script shared) c.args.script.now c.run_threads-closed.result.0 new.opened_is new.script_is g.A.Sectors.seen
-    (views_of c.run_threads-closed.result.1.items) c.args.archive c.run_threads-closed.result.2
+    g.A.Sectors.gives (views_of c.run_threads-closed.result.1.items) c.args.archive c.run_threads-closed.result.2
     c.run_threads-closed.ensures.archived

@@ -33,13 +33,13 @@ play_all-played-requires-clause-archiver g c κs within =
     let x = c.args.crew in
     let w = c.take_out-worker.result in
     let p = c.archiver_at-place.ensures in
-    may_work g.F.Receiver.stands_for c.args.table.now.table_id g.A.Sectors.seen x c.take_out-worker.new.self
-    c.archiver_at-place.result w c.requires.seated c.take_out-worker.ensures.out
+    may_work g.F.Receiver.stands_for c.args.table.now.table_id g.A.Sectors.seen g.A.Sectors.gives x
+    c.take_out-worker.new.self c.archiver_at-place.result w c.requires.seated c.take_out-worker.ensures.out
     (as_many g.F.Receiver.stands_for c.args.table.now.table_id x.seats.items x.players.items c.requires.seated)
     c.in-Some.part c.take_out-worker.ensures.archive p.0
     (subst (λ l. get_elem? l c.archiver_at-place.result ≡ some p.0) c.as_slice.ensures.value p.1) p.2
     (subst (λ a. IfSome a (λ part. (about : About g.row.L.Denot g.row.D.Denot) × (before : Part g.row.A.Denot)
-    × MayBeArchived g.A.Sectors.seen about before x part)) c.in-Some.is c.requires.archive)
+    × MayBeArchived g.A.Sectors.seen g.A.Sectors.gives about before x part)) c.in-Some.is c.requires.archive)
 
 pub put_back-archive-requires : goal.put_back-archive-requires
 put_back-archive-requires g c =
@@ -52,8 +52,8 @@ pub returns-clause-goes_on : goal.returns-clause-goes_on
 returns-clause-goes_on g c =
     let w = c.take_out-worker.result in
     let v = c.in-Some-archiver.worker in
-    let on = subst (WorksOn g.A.Sectors.seen g.F.Receiver.stands_for c.args.table.now.table_id (Some w))
-    c.in-Some-archiver.is c.play_all-played.ensures.archiver in
+    let on = subst (WorksOn g.A.Sectors.seen g.A.Sectors.gives g.F.Receiver.stands_for c.args.table.now.table_id
+    (Some w)) c.in-Some-archiver.is c.play_all-played.ensures.archiver in
     keep_back g.F.Receiver.stands_for c.args.table.now.table_id c.args.crew c.take_out-worker.new.self
     c.archiver_at-place.result (sitting w.seat w.player) c.requires.seated c.take_out-worker.ensures.out
     c.play_all-played.result.0 c.put_back-archive.new.self (sitting v.seat v.player) c.play_all-played.ensures.goes_on
@@ -73,12 +73,13 @@ returns-clause-archive g c =
     let v = c.in-Some-archiver.worker in
     let z = c.put_back-archive.new.self in
     let p = c.archiver_at-place.ensures in
-    let on = subst (WorksOn g.A.Sectors.seen g.F.Receiver.stands_for c.args.table.now.table_id (Some w))
-    c.in-Some-archiver.is c.play_all-played.ensures.archiver in
-    subst (λ a. LeavesArchive g.A.Sectors.seen x a z c.put_back-archive.result) (sym c.in-Some.is)
-    (subst (λ a. ArchiveStays g.A.Sectors.seen x c.in-Some.part z a) (sym c.put_back-archive.ensures.archive)
-    (stays g.F.Receiver.stands_for c.args.table.now.table_id g.A.Sectors.seen x c.take_out-worker.new.self
-    c.archiver_at-place.result w c.requires.seated c.take_out-worker.ensures.out
+    let on = subst (WorksOn g.A.Sectors.seen g.A.Sectors.gives g.F.Receiver.stands_for c.args.table.now.table_id
+    (Some w)) c.in-Some-archiver.is c.play_all-played.ensures.archiver in
+    subst (λ a. LeavesArchive g.A.Sectors.seen g.A.Sectors.gives x a z c.put_back-archive.result) (sym c.in-Some.is)
+    (subst (λ a. ArchiveStays g.A.Sectors.seen g.A.Sectors.gives x c.in-Some.part z a)
+    (sym c.put_back-archive.ensures.archive)
+    (stays g.F.Receiver.stands_for c.args.table.now.table_id g.A.Sectors.seen g.A.Sectors.gives x
+    c.take_out-worker.new.self c.archiver_at-place.result w c.requires.seated c.take_out-worker.ensures.out
     (as_many g.F.Receiver.stands_for c.args.table.now.table_id x.seats.items x.players.items c.requires.seated)
     c.in-Some.part c.take_out-worker.ensures.archive p.0
     (subst (λ l. get_elem? l c.archiver_at-place.result ≡ some p.0) c.as_slice.ensures.value p.1) p.2

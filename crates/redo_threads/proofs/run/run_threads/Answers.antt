@@ -139,12 +139,12 @@ play_crew-crew-requires-clause-archive g c κs within = by c.args.archive refl
 
     by : (a : Option (Part g.row.A.Denot)) → c.args.archive ≡ a
         → IfSome a (λ part. (about : About g.row.L.Denot g.row.D.Denot) × (before : Part g.row.A.Denot)
-        × MayBeArchived g.A.Sectors.seen about before x part)
+        × MayBeArchived g.A.Sectors.seen g.A.Sectors.gives about before x part)
     by None is = tt
     by (Some part) is = (
       c.args.shared.board.shared.key,
       part,
-      may_be g.A.Sectors.seen c.args.shared c.args.players.items c.requires.readers part
+      may_be g.A.Sectors.seen c.args.shared c.args.players.items c.requires.readers g.A.Sectors.gives part
           (subst (λ a. IfSome a (IsNewArchive g.A.Sectors.seen (opened_of c.args.shared) (shared_script c.args.shared))) is
           c.requires.archive)
           c.requires.unseated.ready.may x refl
@@ -168,7 +168,8 @@ finish-closed-requires-clause-lost g c =
         (views_of (map actor_of y.players.items)) c.lost_by-lost.result
     by None is =
         let gone : c.play_crew-crew.result.1 ≡ None =
-        subst (λ a. LeavesArchive g.A.Sectors.seen x a y c.play_crew-crew.result.1) is c.play_crew-crew.ensures.archive in
+        subst (λ a. LeavesArchive g.A.Sectors.seen g.A.Sectors.gives x a y c.play_crew-crew.result.1) is
+        c.play_crew-crew.ensures.archive in
         subst (λ b. TellsLoss b (views_of (map actor_of y.players.items)) c.lost_by-lost.result)
         (sym (c.requires.is_archived ∙ ap is_some is))
         (c.lost_by-lost.ensures ∙ ap (λ (a : Option (Part g.row.A.Denot)). lost_of a) gone)
@@ -181,8 +182,8 @@ finish-closed-requires-clause-lost g c =
         (subst (λ a. IfSome a (IsNewArchive g.A.Sectors.seen (opened_of c.args.shared) (shared_script c.args.shared))) is
         c.requires.archive)
         c.requires.unseated.ready.may (c.requires.is_archived ∙ ap is_some is) c.play_crew-crew.result.1
-        (subst (λ a. LeavesArchive g.A.Sectors.seen x a y c.play_crew-crew.result.1) is c.play_crew-crew.ensures.archive)
-        c.lost_by-lost.result c.lost_by-lost.ensures
+        (subst (λ a. LeavesArchive g.A.Sectors.seen g.A.Sectors.gives x a y c.play_crew-crew.result.1) is
+        c.play_crew-crew.ensures.archive) c.lost_by-lost.result c.lost_by-lost.ensures
 
 pub returns-clause-archived : goal.returns-clause-archived
 returns-clause-archived g c = by c.args.archive refl
@@ -194,7 +195,7 @@ returns-clause-archived g c = by c.args.archive refl
     y = c.play_crew-crew.result.0
 
     Have : Option (Part g.row.A.Denot) → Option (Part g.row.A.Denot) → Type 0
-    Have = HaveArchived g.L.Sectors.seen g.D.Sectors.seen g.A.Sectors.seen (opened_of c.args.shared)
+    Have = HaveArchived g.L.Sectors.seen g.D.Sectors.seen g.A.Sectors.seen g.A.Sectors.gives (opened_of c.args.shared)
         (shared_script c.args.shared) c.finish-closed.result.0 (views_of c.finish-closed.result.1.items)
 
     told : c.finish-closed.result.0.lost ≡ lost_of c.play_crew-crew.result.1
@@ -203,7 +204,8 @@ returns-clause-archived g c = by c.args.archive refl
     by : (a : Option (Part g.row.A.Denot)) → c.args.archive ≡ a → Have c.args.archive c.play_crew-crew.result.1
     by None is =
         let gone : c.play_crew-crew.result.1 ≡ None =
-        subst (λ a. LeavesArchive g.A.Sectors.seen x a y c.play_crew-crew.result.1) is c.play_crew-crew.ensures.archive in
+        subst (λ a. LeavesArchive g.A.Sectors.seen g.A.Sectors.gives x a y c.play_crew-crew.result.1) is
+        c.play_crew-crew.ensures.archive in
         subst (λ a. Have a c.play_crew-crew.result.1) (sym is)
         (subst (λ a. Have None a) (sym gone) (told ∙ ap (λ (a : Option (Part g.row.A.Denot)). lost_of a) gone))
     by (Some part) is =
@@ -218,6 +220,7 @@ returns-clause-archived g c = by c.args.archive refl
         (subst (λ a. IfSome a (IsNewArchive g.A.Sectors.seen (opened_of c.args.shared) (shared_script c.args.shared))) is
         c.requires.archive)
         c.requires.unseated.ready.may (c.requires.is_archived ∙ ap is_some is) c.play_crew-crew.result.1
-        (subst (λ a. LeavesArchive g.A.Sectors.seen x a y c.play_crew-crew.result.1) is c.play_crew-crew.ensures.archive)
+        (subst (λ a. LeavesArchive g.A.Sectors.seen g.A.Sectors.gives x a y c.play_crew-crew.result.1) is
+        c.play_crew-crew.ensures.archive)
         g.L.Sectors.seen g.L.Sectors.gives g.D.Sectors.seen g.D.Sectors.gives end.work works c.finish-closed.result.1.items
         end.are c.finish-closed.result.0 (heard_so g c end.work works) told)

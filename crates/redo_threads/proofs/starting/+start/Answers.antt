@@ -47,8 +47,8 @@ returns-in-Ok-clause-crew g t c =
     let w = c.take_out-worker.result in
     let sits = taken_sits g.F.Receiver.stands_for c.args.table.now.table_id c.args.crew rest (c.args.left - 1)
     (sitting w.seat w.player) c.requires.seated c.take_out-worker.ensures.out in
-    let on = with_promised g.F.Receiver.stands_for c.args.table.now.table_id g.A.Sectors.seen c.in-Ok.handle.promise.0.value w c.join.result
-    c.in-Ok.ensures.ok sits c.join.ensures in
+    let on = with_promised g.F.Receiver.stands_for c.args.table.now.table_id g.A.Sectors.seen g.A.Sectors.gives
+    c.in-Ok.handle.promise.0.value w c.join.result c.in-Ok.ensures.ok sits c.join.ensures in
     keep_back g.F.Receiver.stands_for c.args.table.now.table_id c.args.crew rest (c.args.left - 1)
     (sitting w.seat w.player) c.requires.seated
     c.take_out-worker.ensures.out c.start-crew.result.0 c.put_back.new.self

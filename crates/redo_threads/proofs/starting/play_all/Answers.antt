@@ -32,7 +32,8 @@ to_ends-requires-after_bounds g c κs within =
     c.scoped-played.ensures.1.0
 
 pub archiver_to_end-requires-after_bounds : goal.archiver_to_end-requires-after_bounds
-archiver_to_end-requires-after_bounds g c κs within = work_still g.F.Receiver.stands_for c.args.table.now.table_id g.A.Sectors.seen c.args.archiver
+archiver_to_end-requires-after_bounds g c κs within = work_still g.F.Receiver.stands_for c.args.table.now.table_id
+    g.A.Sectors.seen g.A.Sectors.gives c.args.archiver
     c.scoped-played.result.1 c.requires.archiver c.scoped-played.ensures.1.1
 
 pub returns-clause-goes_on : goal.returns-clause-goes_on
@@ -41,5 +42,6 @@ returns-clause-goes_on g c =
     c.scoped-played.ensures.1.0 c.to_ends.ensures.goes_on
 
 pub returns-clause-archiver : goal.returns-clause-archiver
-returns-clause-archiver g c = works_trans g.F.Receiver.stands_for c.args.table.now.table_id g.A.Sectors.seen c.args.archiver c.scoped-played.result.1
+returns-clause-archiver g c = works_trans g.F.Receiver.stands_for c.args.table.now.table_id g.A.Sectors.seen
+    g.A.Sectors.gives c.args.archiver c.scoped-played.result.1
     c.archiver_to_end.new.archiver c.scoped-played.ensures.1.1 c.archiver_to_end.ensures.goes_on

@@ -28,7 +28,5 @@ returns-in-Ok-clause-begun g c =
           c.put_archive.ensures.size refl is) c.len.ensures.told c.in-Ok.ensures.ok.1;
       size = c.put_archive.ensures.size;
       later = omega (arith, c.put_archive.ensures.cause.later);
+      calls = c.in-Ok.ensures.calls;
     }
-
-pub returns-in-Ok-clause-calls : goal.returns-in-Ok-clause-calls
-returns-in-Ok-clause-calls g c = c.in-Ok.ensures.calls

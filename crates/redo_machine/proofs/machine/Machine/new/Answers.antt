@@ -20,11 +20,11 @@ returns-in-Ok-clause-on_run g c =
     let B = begun g c in
     let come = comes g.L.Sectors.seen g.D.Sectors.seen g.A.Sectors.seen g.R.Receiver.stands_for c.args.opened
     c.args.script.now c.args.log_only (is_some c.args.archive) c.args.followers.items c.in-Ok.field-0 B c.requires.may
-    c.args.archive refl c.requires.archive in
+    g.A.Sectors.gives c.args.archive refl c.requires.archive in
     record {
       run = B.run;
       runs = B.from.runs;
-      beside = beside_of g.L.Sectors.seen g.D.Sectors.seen g.A.Sectors.seen B.run c.in-Ok.field-0.parts _ B.from.runs
+      beside = beside_of g.L.Sectors.seen g.D.Sectors.seen g.A.Sectors.seen g.A.Sectors.gives B.run c.in-Ok.field-0.parts _ B.from.runs
           c.args.archive c.args.archive come;
       numbered = numbered g.L.Sectors.seen g.D.Sectors.seen g.A.Sectors.seen g.R.Receiver.stands_for c.args.opened
           c.args.script.now c.args.log_only (is_some c.args.archive) c.args.followers.items c.in-Ok.field-0 B

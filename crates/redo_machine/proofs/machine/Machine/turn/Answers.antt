@@ -46,8 +46,9 @@ returns-clause-on_run g c =
     let old = c.args.self.now.parts in
     let actors = c.args.self.now.actors.items in
     let served = subst
-    (λ (z : Actor g.row.R.Denot). IsServedWith g.L.Sectors.seen g.D.Sectors.seen g.A.Sectors.seen g.R.Receiver.stands_for
-    O.run old c.args.self.now.archive z c.serve_with.result c.serve_with.new.parts c.serve_with.new.archive
+    (λ (z : Actor g.row.R.Denot). IsServedWith g.L.Sectors.seen g.D.Sectors.seen g.A.Sectors.seen g.A.Sectors.gives
+    g.R.Receiver.stands_for O.run old c.args.self.now.archive z c.serve_with.result c.serve_with.new.parts
+    c.serve_with.new.archive
     c.serve_with.new.actor) c.index_mut.ensures.value (c.serve_with.ensures.served O.run) in
     record {
       run = O.run;
@@ -73,8 +74,9 @@ returns-clause-on_run g c =
 pub returns-clause-turn : goal.returns-clause-turn
 returns-clause-turn g c = λ run archive R.
     let served = subst
-    (λ (z : Actor g.row.R.Denot). IsServedWith g.L.Sectors.seen g.D.Sectors.seen g.A.Sectors.seen g.R.Receiver.stands_for
-    run c.args.self.now.parts c.args.self.now.archive z c.serve_with.result c.serve_with.new.parts
+    (λ (z : Actor g.row.R.Denot). IsServedWith g.L.Sectors.seen g.D.Sectors.seen g.A.Sectors.seen g.A.Sectors.gives
+    g.R.Receiver.stands_for run c.args.self.now.parts c.args.self.now.archive z c.serve_with.result
+    c.serve_with.new.parts
     c.serve_with.new.archive c.serve_with.new.actor) c.index_mut.ensures.value (c.serve_with.ensures.served run) in
     let old = c.args.self.now.parts in let actors = c.args.self.now.actors.items in (
       takes_turn g.L.Sectors.seen g.D.Sectors.seen g.R.Receiver.stands_for run old c.serve_with.new.parts actors
@@ -87,8 +89,9 @@ returns-clause-turn g c = λ run archive R.
 pub returns-clause-from : goal.returns-clause-from
 returns-clause-from g c = λ run archive starts before F.
     let served = subst
-    (λ (z : Actor g.row.R.Denot). IsServedWith g.L.Sectors.seen g.D.Sectors.seen g.A.Sectors.seen g.R.Receiver.stands_for
-    run c.args.self.now.parts c.args.self.now.archive z c.serve_with.result c.serve_with.new.parts
+    (λ (z : Actor g.row.R.Denot). IsServedWith g.L.Sectors.seen g.D.Sectors.seen g.A.Sectors.seen g.A.Sectors.gives
+    g.R.Receiver.stands_for run c.args.self.now.parts c.args.self.now.archive z c.serve_with.result
+    c.serve_with.new.parts
     c.serve_with.new.archive c.serve_with.new.actor) c.index_mut.ensures.value (c.serve_with.ensures.served run) in
     record {
       from = runs_from g.L.Sectors.seen g.D.Sectors.seen g.R.Receiver.stands_for run c.args.self.now.parts
@@ -104,8 +107,9 @@ returns-clause-from g c = λ run archive starts before F.
 pub returns-clause-cause : goal.returns-clause-cause
 returns-clause-cause g c = λ run archive code R failed.
     let served = subst
-    (λ (z : Actor g.row.R.Denot). IsServedWith g.L.Sectors.seen g.D.Sectors.seen g.A.Sectors.seen g.R.Receiver.stands_for
-    run c.args.self.now.parts c.args.self.now.archive z c.serve_with.result c.serve_with.new.parts
+    (λ (z : Actor g.row.R.Denot). IsServedWith g.L.Sectors.seen g.D.Sectors.seen g.A.Sectors.seen g.A.Sectors.gives
+    g.R.Receiver.stands_for run c.args.self.now.parts c.args.self.now.archive z c.serve_with.result
+    c.serve_with.new.parts
     c.serve_with.new.archive c.serve_with.new.actor) c.index_mut.ensures.value (c.serve_with.ensures.served run) in
     beside.met g.L.Sectors.seen g.D.Sectors.seen g.A.Sectors.seen g.R.Receiver.stands_for run
     c.args.self.now.parts c.serve_with.new.parts c.args.self.now.actors.items c.args.seat c.index_mut.result.now

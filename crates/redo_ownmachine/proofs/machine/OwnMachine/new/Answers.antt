@@ -29,5 +29,6 @@ returns-in-Ok-take_seats-clause-begins g c = begun g c
 
 pub returns-in-Ok-take_seats-clause-on_run : goal.returns-in-Ok-take_seats-clause-on_run
 returns-in-Ok-take_seats-clause-on_run g c = on_its_run g.L.Sectors.seen g.D.Sectors.seen g.A.Sectors.seen
+    g.A.Sectors.gives
     g.R.Receiver.stands_for c.args.opened c.args.script.now c.args.log_only c.args.archive c.args.followers.items _
     (begun g c) c.requires.may c.requires.archive refl c.requires.new

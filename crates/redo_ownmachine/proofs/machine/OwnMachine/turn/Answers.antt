@@ -62,7 +62,7 @@ returns-then-seat-users-clause-from g c = λ run archive starts before F.
     g.D.Sectors.gives did.ensures.asked in
     let C = user.user_comes g.L.Sectors.seen g.D.Sectors.seen run m.parts did.new.parts m.users.items m.work did.new.work
     m.others.items c.args.seat who did.new.user did.result at (did.ensures.served run) g.A.Sectors.seen
-    g.R.Receiver.stands_for c.archive_stays.ensures.pace F.errands
+    g.A.Sectors.gives g.R.Receiver.stands_for c.archive_stays.ensures.pace F.errands
     (λ (R : OwnRunsWith g.L.Sectors.seen g.D.Sectors.seen run archive m.parts (seats_of m)). runs_then g.L.Sectors.seen g.D.Sectors.seen run m.parts did.new.parts (seats_of m) _ c.args.seat t.answer
     did.result did.ensures.pages t.turn R) starts
     before m.archive (F.from, F.come) in
@@ -110,7 +110,8 @@ returns-else-seat-users-clause-on_run g c =
     let m = c.args.self.now in let d = c.index_mut-else-seat-users.result.now in let did = c.serve_with in
     let j = c.args.seat - c.len-users.result in let value = c.index_mut-else-seat-users.ensures.value in
     let served = subst (λ (z : Actor g.row.R.Denot). IsServedWith g.L.Sectors.seen g.D.Sectors.seen g.A.Sectors.seen
-    g.R.Receiver.stands_for O.run m.parts m.archive z did.result did.new.parts did.new.archive did.new.actor) value
+    g.A.Sectors.gives g.R.Receiver.stands_for O.run m.parts m.archive z did.result did.new.parts did.new.archive
+    did.new.actor) value
     (did.ensures.served O.run) in
     let asked = subst (λ (z : Actor g.row.R.Denot). AskOfBoth g.L.Sectors.gives g.D.Sectors.gives (lent (view_of z))
     (next (view_of z)) m.parts did.new.parts) value did.ensures.asked in
@@ -139,7 +140,8 @@ returns-else-seat-users-clause-turn g c = λ run archive R.
     let m = c.args.self.now in let d = c.index_mut-else-seat-users.result.now in let did = c.serve_with in
     let j = c.args.seat - c.len-users.result in let value = c.index_mut-else-seat-users.ensures.value in
     let served = subst (λ (z : Actor g.row.R.Denot). IsServedWith g.L.Sectors.seen g.D.Sectors.seen g.A.Sectors.seen
-    g.R.Receiver.stands_for run m.parts m.archive z did.result did.new.parts did.new.archive did.new.actor) value
+    g.A.Sectors.gives g.R.Receiver.stands_for run m.parts m.archive z did.result did.new.parts did.new.archive
+    did.new.actor) value
     (did.ensures.served run) in
     let asked = subst (λ (z : Actor g.row.R.Denot). AskOfBoth g.L.Sectors.gives g.D.Sectors.gives (lent (view_of z))
     (next (view_of z)) m.parts did.new.parts) value did.ensures.asked in
@@ -156,7 +158,8 @@ returns-else-seat-users-clause-from g c = λ run archive starts before F.
     let m = c.args.self.now in let d = c.index_mut-else-seat-users.result.now in let did = c.serve_with in
     let j = c.args.seat - c.len-users.result in let value = c.index_mut-else-seat-users.ensures.value in
     let served = subst (λ (z : Actor g.row.R.Denot). IsServedWith g.L.Sectors.seen g.D.Sectors.seen g.A.Sectors.seen
-    g.R.Receiver.stands_for run m.parts m.archive z did.result did.new.parts did.new.archive did.new.actor) value
+    g.A.Sectors.gives g.R.Receiver.stands_for run m.parts m.archive z did.result did.new.parts did.new.archive
+    did.new.actor) value
     (did.ensures.served run) in
     let asked = subst (λ (z : Actor g.row.R.Denot). AskOfBoth g.L.Sectors.gives g.D.Sectors.gives (lent (view_of z))
     (next (view_of z)) m.parts did.new.parts) value did.ensures.asked in
@@ -180,7 +183,8 @@ returns-else-seat-users-clause-cause g c = λ run archive code R failed.
     let m = c.args.self.now in let d = c.index_mut-else-seat-users.result.now in let did = c.serve_with in
     let j = c.args.seat - c.len-users.result in let value = c.index_mut-else-seat-users.ensures.value in
     let served = subst (λ (z : Actor g.row.R.Denot). IsServedWith g.L.Sectors.seen g.D.Sectors.seen g.A.Sectors.seen
-    g.R.Receiver.stands_for run m.parts m.archive z did.result did.new.parts did.new.archive did.new.actor) value
+    g.A.Sectors.gives g.R.Receiver.stands_for run m.parts m.archive z did.result did.new.parts did.new.archive
+    did.new.actor) value
     (did.ensures.served run) in
     let asked = subst (λ (z : Actor g.row.R.Denot). AskOfBoth g.L.Sectors.gives g.D.Sectors.gives (lent (view_of z))
     (next (view_of z)) m.parts did.new.parts) value did.ensures.asked in
@@ -195,7 +199,8 @@ returns-else-seat-users-clause-alone g c = λ run alone.
     let m = c.args.self.now in let d = c.index_mut-else-seat-users.result.now in let did = c.serve_with in
     let j = c.args.seat - c.len-users.result in let value = c.index_mut-else-seat-users.ensures.value in
     let served = subst (λ (z : Actor g.row.R.Denot). IsServedWith g.L.Sectors.seen g.D.Sectors.seen g.A.Sectors.seen
-    g.R.Receiver.stands_for run m.parts m.archive z did.result did.new.parts did.new.archive did.new.actor) value
+    g.A.Sectors.gives g.R.Receiver.stands_for run m.parts m.archive z did.result did.new.parts did.new.archive
+    did.new.actor) value
     (did.ensures.served run) in
     let asked = subst (λ (z : Actor g.row.R.Denot). AskOfBoth g.L.Sectors.gives g.D.Sectors.gives (lent (view_of z))
     (next (view_of z)) m.parts did.new.parts) value did.ensures.asked in
