@@ -10,6 +10,7 @@ use Rattle.model_log.specs.declared.head.Format.{Format}
 use Rattle.model_log.specs.declared.head.Format.TheVariants.{One, Two, Three}
 use Rattle.model_log.specs.declared.head.Head.TheVariants.{Good}
 use Rattle.model_log.specs.declared.layout.Layout.{Layout}
+use Rattle.model_log.proofs.Formats.{other-layout}
 use Rattle.model_store.specs.{IsFairLog, IsOrderly}
 use Rattle.model_store.specs.Reading.{Reading}
 use Rattle.model_store.specs.declared.tail.Tail.{Tail}
@@ -122,7 +123,9 @@ not-opened opened tail log_old data_old log_bytes data_bytes image from clearing
     same-newest (found_layout opened) log_bytes image (same 1 (omega arith)) (same 3 (omega arith)) ∙ from.orderly.reads.scan.checkpoint in
     record {
       head = same-head_of log_bytes image (same 0 (omega arith)) (same 2 (omega arith)) ∙ from.orderly.reads.scan.devices.head.head;
-      newest = λ two. subst (λ (format : Format). newest_checkpoint (layout_of format opened.shape) image ≡ Some (opened.number, opened.ckpt)) two newest;
+      newest = λ other. subst
+          (λ (l : Layout). newest_checkpoint l image ≡ Some (opened.number, opened.ckpt))
+          (other-layout opened.format opened.shape other) newest;
     }
 
 pub unmoved-clears : (opened : Reading) (tail : Option Tail) (log_old data_old : Seen) (log_bytes data_bytes : List ℕ) (told : Option Disk) → OpensFrom opened tail log_old data_old log_bytes data_bytes

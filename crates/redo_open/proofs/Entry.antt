@@ -3,8 +3,9 @@ use Rattle.std.proofs.Common.{◌≡◌, ◌≢◌, ◌⊎◌, inl, inr, ℕ, Li
 use Rattle.std.specs.Prelude.{IfSome}
 use Rattle.model_device.specs.{synced}
 use Rattle.model_device.specs.Disk.{Disk}
-use Rattle.model_log.specs.{layout_of, newest_checkpoint}
-use Rattle.model_log.specs.declared.head.Format.{Format}
+use Rattle.model_log.specs.{newest_checkpoint}
+use Rattle.model_log.specs.declared.layout.Layout.{Layout}
+use Rattle.model_log.proofs.Formats.{other-layout}
 use Rattle.model_parts.specs.{IsAtRest, IsOpenable, IsUnopened, KeepsOpened}
 use Rattle.model_parts.proofs.Keeping.{openable-keeps}
 use Rattle.model_store.specs.{IsOrderly}
@@ -124,9 +125,9 @@ rests-unopened opened log data_bytes rests orderly =
     let scan = orderly.reads.scan in
     subst (IsUnopened opened.format opened.shape opened.number opened.ckpt) (sym base) (record {
       head = scan.devices.head.head;
-      newest = λ two. subst
-          (λ (f : Format). newest_checkpoint (layout_of f opened.shape) log.reads ≡ Some (opened.number, opened.ckpt))
-          two scan.checkpoint;
+      newest = λ other. subst
+          (λ (l : Layout). newest_checkpoint l log.reads ≡ Some (opened.number, opened.ckpt))
+          (other-layout opened.format opened.shape other) scan.checkpoint;
     })
 
 unwritten-unmoved : (opened : Reading) (l d : Disk) (log : Option Disk) → IsOrderly l.reads d.reads opened

@@ -3,9 +3,10 @@ use Rattle.std.proofs.Common.{◌≡◌, ℕ, List, length, Option, Some, None, 
 use Rattle.std.specs.Prelude.{IfSome}
 use Rattle.model_device.specs.{settled, synced}
 use Rattle.model_device.specs.Disk.{Disk}
-use Rattle.model_log.specs.{layout_of, newest_checkpoint}
-use Rattle.model_log.specs.declared.head.Format.{Format}
+use Rattle.model_log.specs.{newest_checkpoint}
 use Rattle.model_log.proofs.Several.{one_group}
+use Rattle.model_log.specs.declared.layout.Layout.{Layout}
+use Rattle.model_log.proofs.Formats.{other-layout}
 use Rattle.model_parts.specs.{found_layout, IsRewriting, IsUnopened, KeepsHead, KeepsOpened}
 use Rattle.model_parts.proofs.Alike.{kept-found, kept-orderly}
 use Rattle.model_parts.proofs.Keeping.{kept-head_keeps}
@@ -136,9 +137,9 @@ head-unopened opened log_bytes data_bytes image orderly keeps =
     (keeps.others 3 (λ same. omega arith) (λ same. omega arith)) ∙ orderly.reads.scan.checkpoint in
     record {
       head = keeps.head ∙ orderly.reads.scan.devices.head.head;
-      newest = λ two. subst
-          (λ (f : Format). newest_checkpoint (layout_of f opened.shape) image ≡ Some (opened.number, opened.ckpt))
-          two newest;
+      newest = λ other. subst
+          (λ (l : Layout). newest_checkpoint l image ≡ Some (opened.number, opened.ckpt))
+          (other-layout opened.format opened.shape other) newest;
     }
 
 pub failed-keeps : (opened read : Reading) (heads : List ℕ) (log data_told log_read data_read : Option Disk)
