@@ -80,7 +80,8 @@ drive_names = name.Turns ∷ name.Max ∷ name.Threads ∷ name.LogOnly ∷ name
 
 abbrev pub given_format : List Given → Option Command
 given_format options =
-    option_and_then (λ page_size. option_and_then (λ pages. option_and_then (λ space. option_map (λ log_blocks. Format page_size pages space log_blocks)
+    option_and_then (λ page_size. option_and_then (λ pages. option_and_then (λ space.
+    option_map (λ log_blocks. Format page_size pages space log_blocks)
     (number_or MIN_LOG_BLOCKS MAX_LOG_BLOCKS DEFAULT_LOG_BLOCKS (given_number name.LogBlocks options)))
     (number_or 0 (2 ^ 32 - 1) DEFAULT_SPACE (given_number name.Space options)))
     (number_or 1 MAX_PAGES DEFAULT_PAGES (given_number name.Pages options)))
@@ -114,7 +115,8 @@ where_allowed names options command = if are_among names options && are_differen
 -- the command of this name, which has no number by itself
 abbrev pub plain_command : List ℕ → List Given → Option Command
 plain_command text options =
-    if bytes_eq text (codes "format") then where_allowed (name.PageSize ∷ name.Pages ∷ name.Space ∷ name.LogBlocks ∷ []) options (given_format options)
+    if bytes_eq text (codes "format")
+    then where_allowed (name.PageSize ∷ name.Pages ∷ name.Space ∷ name.LogBlocks ∷ []) options (given_format options)
     else (if bytes_eq text (codes "run") then where_allowed (name.Archive ∷ drive_names) options (given_run options)
     else (if bytes_eq text (codes "crash") then where_allowed (name.StopLog ∷ name.StopData ∷ name.Pick ∷ name.Workers ∷ drive_names) options (given_crash options)
     else (if bytes_eq text (codes "recover") then where_allowed (name.Workers ∷ []) options (option_map Recover (given_workers options))

@@ -37,8 +37,8 @@ spelling name.Workers = codes "--workers"
 abbrev pub every_name : List Name
 every_name =
     name.Archive ∷ name.Files ∷ name.Followers ∷ name.LogBlocks ∷ name.LogOnly ∷ name.Max ∷ name.OwnWrites
-    ∷ name.PageSize ∷ name.Pages ∷ name.Pick ∷ name.Run ∷ name.Space ∷ name.StopData ∷ name.StopLog ∷ name.Threads ∷ name.To
-    ∷ name.Turns ∷ name.Why ∷ name.Workers ∷ []
+    ∷ name.PageSize ∷ name.Pages ∷ name.Pick ∷ name.Run ∷ name.Space ∷ name.StopData ∷ name.StopLog ∷ name.Threads
+    ∷ name.To ∷ name.Turns ∷ name.Why ∷ name.Workers ∷ []
 
 -- the option that is spelled so
 unfoldable pub name_of : List ℕ → Option Name

@@ -22,7 +22,8 @@ use Rattle.model_words.proofs.Uses.{use_row}
 
 abbrev format_with : Bool → Option ℕ → Option ℕ → Option ℕ → Option ℕ → Option Asked
 format_with files page_size pages space log_blocks =
-    as_asked files (option_and_then (λ page_size. option_and_then (λ pages. option_and_then (λ space. option_map (λ log_blocks. asked.Format page_size pages space log_blocks) log_blocks) space) pages) page_size)
+    as_asked files (option_and_then (λ page_size. option_and_then (λ pages. option_and_then (λ space.
+    option_map (λ log_blocks. asked.Format page_size pages space log_blocks) log_blocks) space) pages) page_size)
 
 format_bad : (rows0 : List Row) → Bad format_names plain rows0 → read (codes "format") format_names false plain rows0 ≡ None
 format_bad rows0 (inr b) = absurd (true≢false (sym b.2))
@@ -51,15 +52,21 @@ format_bad rows0 (inl b) = go b.0 b.1 b.2 b.3 b.4 b.5
 
     go : (n : Name) (t : Text) → is_member format_names n ≡ true → is_flag n ≡ false → first_of (id n) rows0 ≡ Some t → word_number t ≡ None
         → read (codes "format") format_names false plain rows0 ≡ None
-    go name.PageSize t m f e none = ap (λ o. format_with fs o pages space blocks) (page_size_bad _ t (number_kept (codes "page-size") (rules format_names false) rows0 refl ∙ e) none)
+    go name.PageSize t m f e none =
+        ap (λ o. format_with fs o pages space blocks)
+        (page_size_bad _ t (number_kept (codes "page-size") (rules format_names false) rows0 refl ∙ e) none)
     go name.Pages t m f e none =
-        ap (λ o. format_with fs size o space blocks) (or_bad 1 MAX_PAGES DEFAULT_PAGES _ t (number_kept (codes "pages") (rules format_names false) rows0 refl ∙ e) none)
+        ap (λ o. format_with fs size o space blocks)
+        (or_bad 1 MAX_PAGES DEFAULT_PAGES _ t (number_kept (codes "pages") (rules format_names false) rows0 refl ∙ e) none)
         ∙ ap (as_asked fs) (none_then size)
     go name.Space t m f e none =
-        ap (λ o. format_with fs size pages o blocks) (or_bad 0 (2 ^ 32 - 1) DEFAULT_SPACE _ t (number_kept (codes "space") (rules format_names false) rows0 refl ∙ e) none)
+        ap (λ o. format_with fs size pages o blocks)
+        (or_bad 0 (2 ^ 32 - 1) DEFAULT_SPACE _ t (number_kept (codes "space") (rules format_names false) rows0 refl ∙ e) none)
         ∙ ap (λ o. as_asked fs (option_and_then (λ x. o) size)) (none_then pages) ∙ ap (as_asked fs) (none_then size)
     go name.LogBlocks t m f e none =
-        ap (λ o. format_with fs size pages space o) (or_bad MIN_LOG_BLOCKS MAX_LOG_BLOCKS DEFAULT_LOG_BLOCKS _ t (number_kept (codes "log-blocks") (rules format_names false) rows0 refl ∙ e) none)
+        ap (λ o. format_with fs size pages space o)
+        (or_bad MIN_LOG_BLOCKS MAX_LOG_BLOCKS DEFAULT_LOG_BLOCKS _ t
+        (number_kept (codes "log-blocks") (rules format_names false) rows0 refl ∙ e) none)
         ∙ ap (λ o. as_asked fs (option_and_then (λ y. option_and_then (λ x. o) pages) size)) (none_then space)
         ∙ ap (λ o. as_asked fs (option_and_then (λ x. o) size)) (none_then pages) ∙ ap (as_asked fs) (none_then size)
     go name.Files t m f e none = absurd (true≢false f)
@@ -70,7 +77,8 @@ format_is = record {
   good = λ us said ok e d m.
       let text = text_is format_names (rules format_names false) plain us said ok e in
       (λ i. format_with (given_is format_names (rules format_names false) plain us said ok e name.Files refl (flag_kept (codes "files") (rules format_names false) (map use_row us) refl) i)
-      (page_size_is _ _ (text name.PageSize refl (number_kept (codes "page-size") (rules format_names false) (map use_row us) refl)) i)
+      (page_size_is _ _ (text name.PageSize refl
+      (number_kept (codes "page-size") (rules format_names false) (map use_row us) refl)) i)
       (or_is 1 MAX_PAGES DEFAULT_PAGES _ _ (text name.Pages refl (number_kept (codes "pages") (rules format_names false) (map use_row us) refl)) i)
       (or_is 0 (2 ^ 32 - 1) DEFAULT_SPACE _ _ (text name.Space refl (number_kept (codes "space") (rules format_names false) (map use_row us) refl)) i)
       (or_is MIN_LOG_BLOCKS MAX_LOG_BLOCKS DEFAULT_LOG_BLOCKS _ _ (text name.LogBlocks refl (number_kept (codes "log-blocks") (rules format_names false) (map use_row us) refl)) i))

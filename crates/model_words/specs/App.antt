@@ -47,7 +47,8 @@ with_workers app = with_rule app (number_rule (codes "workers"))
 
 abbrev pub format_app : App
 format_app =
-    with_rule (with_rule (with_rule (with_rule (plain_app (codes "format")) (number_rule (codes "page-size"))) (number_rule (codes "pages"))) (number_rule (codes "space"))) (number_rule (codes "log-blocks"))
+    with_rule (with_rule (with_rule (with_rule (plain_app (codes "format")) (number_rule (codes "page-size")))
+    (number_rule (codes "pages"))) (number_rule (codes "space"))) (number_rule (codes "log-blocks"))
 
 abbrev pub run_app : App
 run_app = with_drive (with_rule (plain_app (codes "run")) (flag_rule (codes "archive")))

@@ -61,7 +61,8 @@ run_from rows = option_map Run (drive_from (is_true (first_of (codes "archive") 
 
 abbrev pub format_from : List Row → Option Command
 format_from rows =
-    option_and_then (λ page_size. option_and_then (λ pages. option_and_then (λ space. option_map (λ log_blocks. Format page_size pages space log_blocks)
+    option_and_then (λ page_size. option_and_then (λ pages. option_and_then (λ space.
+    option_map (λ log_blocks. Format page_size pages space log_blocks)
     (text_number_or MIN_LOG_BLOCKS MAX_LOG_BLOCKS DEFAULT_LOG_BLOCKS (first_of (codes "log-blocks") rows)))
     (text_number_or 0 (2 ^ 32 - 1) DEFAULT_SPACE (first_of (codes "space") rows)))
     (text_number_or 1 MAX_PAGES DEFAULT_PAGES (first_of (codes "pages") rows)))

@@ -63,7 +63,8 @@ or-between least greatest default m None between is = let same : default ≡ m =
 or-between least greatest default m (Some n) between is = within-between least greatest n m is
 
 -- so many bytes a page may have
-if-page_size : (n m : ℕ) (passes : Bool) → is_page_size n ≡ passes → (if passes then Some n else None) ≡ Some m → IsPageSize m
+if-page_size : (n m : ℕ) (passes : Bool) → is_page_size n ≡ passes → (if passes then Some n else None) ≡ Some m
+    → IsPageSize m
 if-page_size n m true tested is = let same : n ≡ m = cc in subst IsPageSize same (page_size_test n tested)
 if-page_size n m false tested is = cc
 
@@ -88,7 +89,8 @@ format-within options command is =
     let some : IsBetween 1 MAX_PAGES pages.0 = or-between 1 MAX_PAGES DEFAULT_PAGES pages.0 (given_number name.Pages options) (lit≤ tt, lit≤ tt) pages.1 in
     let many : IsBetween MIN_LOG_BLOCKS MAX_LOG_BLOCKS blocks.0 =
     or-between MIN_LOG_BLOCKS MAX_LOG_BLOCKS DEFAULT_LOG_BLOCKS blocks.0 (given_number name.LogBlocks options) (lit≤ tt, lit≤ tt) blocks.1 in
-    subst HasAllowedNumbers blocks.2 (or-page_size size.0 (given_number name.PageSize options) size.1, some.0, some.1, many.0, many.1)
+    let allowed = or-page_size size.0 (given_number name.PageSize options) size.1 in
+    subst HasAllowedNumbers blocks.2 (allowed, some.0, some.1, many.0, many.1)
 
 -- the drive's followers are few, and it archives its run just where that is asked
 abbrev IsDriveOf : Bool → Drive → Type 0

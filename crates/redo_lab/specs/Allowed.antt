@@ -19,7 +19,8 @@ runs_in_threads command = elim (drive_of command) [ None ↦ false | Some drive 
 -- the numbers of the command are within its limits, and it archives nothing but the run of a script
 abbrev pub HasAllowedNumbers : Command → Type 0
 HasAllowedNumbers (Format page_size pages space log_blocks) =
-    IsPageSize page_size × (1 ≤ pages) × (pages ≤ MAX_PAGES) × (MIN_LOG_BLOCKS ≤ log_blocks) × (log_blocks ≤ MAX_LOG_BLOCKS)
+    IsPageSize page_size × (1 ≤ pages) × (pages ≤ MAX_PAGES) × (MIN_LOG_BLOCKS ≤ log_blocks)
+    × (log_blocks ≤ MAX_LOG_BLOCKS)
 HasAllowedNumbers (Run drive) = drive.followers ≤ MAX_FOLLOWERS
 HasAllowedNumbers (Crash drive stop_log stop_data pick workers) =
     (drive.followers ≤ MAX_FOLLOWERS) × (drive.archive ≡ false) × (1 ≤ workers) × (workers ≤ MAX_WORKERS)

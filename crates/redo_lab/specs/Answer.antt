@@ -52,7 +52,8 @@ pub record IsRestoredText (call : LabCall) (to : ℕ) (text : List ℕ) : Type 0
 
 -- A command that was done has this text to print.
 abbrev pub IsAnswer : LabCall → Command → List ℕ → Type 0
-IsAnswer call (Format page_size pages space log_blocks) text = IsFormatAnswer call (asked_shape page_size pages space log_blocks) text
+IsAnswer call (Format page_size pages space log_blocks) text =
+    IsFormatAnswer call (asked_shape page_size pages space log_blocks) text
 IsAnswer call (Run drive) text = IsRunText call (Run drive) drive (IsReportWith (λ mark flushed. mark ≡ flushed) call drive) text
 IsAnswer call (Crash drive stop_log stop_data pick workers) text = CrashSafe call drive stop_log stop_data pick workers text
 IsAnswer call (Recover workers) text = IsReadOff call (λ reading text. text ≡ recover_text reading) text

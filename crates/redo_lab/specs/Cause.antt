@@ -80,7 +80,8 @@ pub record AreOfRun (call : LabCall) (command : Command) : Type 0 where
 -- What a command leaves where memory ran out or a device failed: `format` what was there, no store, or the new one.
 abbrev pub LeavesFailed : LabCall → Command → Type 0
 LeavesFailed call (Format page_size pages space log_blocks) =
-    WhereToldAtEntry call (λ log store. WhereToldNow call (KeepsNoStore (asked_shape page_size pages space log_blocks) log store))
+    WhereToldAtEntry call (λ log store.
+    WhereToldNow call (KeepsNoStore (asked_shape page_size pages space log_blocks) log store))
 LeavesFailed call command = runs_script command ≡ true → IsUnprepared call ⊎ AreOfRun call command
 
 -- The store that a run was to open is refused: the log device is too short for a header; or it is unused, and one is too short for
@@ -96,7 +97,8 @@ IsRefusedAtEntry call refusal =
 -- the store is refused, at entry or as a run or a crash left it
 abbrev pub IsRefused : LabCall → Command → Refusal → Type 0
 IsRefused call (Format page_size pages space log_blocks) refusal =
-    IsTooShort (asked_shape page_size pages space log_blocks) call.log.entry.size call.store.entry.size refusal × BothDevices IsUnwritten call
+    IsTooShort (asked_shape page_size pages space log_blocks) call.log.entry.size call.store.entry.size refusal
+    × BothDevices IsUnwritten call
 IsRefused call (Run drive) refusal = IsRefusedAtEntry call refusal
 IsRefused call (Crash drive stop_log stop_data pick workers) refusal =
     IsRefusedAtEntry call refusal

@@ -141,4 +141,5 @@ returns-in-Gen-clause-spares g c = λ drive is. let was = c.in-Gen.is in cc
 pub format_devices-requires : goal.format_devices-requires
 format_devices-requires g c =
     let asked = subst HasAllowedNumbers c.in-Format.is c.requires.within in
-    asked_within c.in-Format.page_size c.in-Format.pages c.in-Format.space c.in-Format.log_blocks asked.0 asked.1 asked.2 (search rules) asked.3 asked.4
+    asked_within c.in-Format.page_size c.in-Format.pages c.in-Format.space c.in-Format.log_blocks
+    asked.0 asked.1 asked.2 (search rules) asked.3 asked.4

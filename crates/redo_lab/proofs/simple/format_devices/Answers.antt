@@ -17,12 +17,12 @@ returns-clause-ends g c = λ words archive source.
     elim c.match-format.branch [
       | in-Ok w ↦ rw (w.outcome-is, w.of_text-outcome.ensures) (format-ends call c.args.page_size c.args.pages c.args.space c.args.log_blocks refl
           (kept-no-store call shape _ _ (λ on. ap (λ d. (g.L.Sectors.seen d).tells) c.plain-log.ensures.inner) (λ on. ap (λ d. (g.D.Sectors.seen d).tells) c.plain-store.ensures.inner)
-          (rw c.shape_of.ensures at w.in-Ok.ensures.keeps)) _
+          (rw c.shape_of-shape.ensures at w.in-Ok.ensures.keeps)) _
           (formats-both g.L.Sectors.seen g.L.Sectors.gives g.D.Sectors.seen g.D.Sectors.gives c.args.log c.args.store (
             unarmed-fresh g.L.Sectors.seen c.args.log c.plain-log.result c.plain-log.ensures.inner c.plain-log.ensures.fuse,
             unarmed-fresh g.D.Sectors.seen c.args.store c.plain-store.result c.plain-store.ensures.inner c.plain-store.ensures.fuse,
           ) tt w.in-Ok.ensures.calls)
-          c.requires c.laws.ensures (rw c.shape_of.ensures at w.in-Ok.ensures.formatted) w.formatted.ensures)
+          c.requires c.laws.ensures (rw c.shape_of-shape.ensures at w.in-Ok.ensures.formatted) w.formatted.ensures)
       | in-Err w ↦ rw (w.outcome-is, w.fault_of.ensures)
           (format-fails g.L.Sectors.seen g.L.Sectors.gives g.D.Sectors.seen g.D.Sectors.gives c.args.log c.args.store (
             unarmed-fresh g.L.Sectors.seen c.args.log c.plain-log.result c.plain-log.ensures.inner c.plain-log.ensures.fuse,
@@ -30,11 +30,11 @@ returns-clause-ends g c = λ words archive source.
           )
           (format-to call c.args.page_size c.args.pages c.args.space c.args.log_blocks refl
           (kept-no-store call shape _ _ (λ on. ap (λ d. (g.L.Sectors.seen d).tells) c.plain-log.ensures.inner) (λ on. ap (λ d. (g.D.Sectors.seen d).tells) c.plain-store.ensures.inner)
-          (rw c.shape_of.ensures at w.in-Err.ensures.keeps)) (λ same. (
+          (rw c.shape_of-shape.ensures at w.in-Err.ensures.keeps)) (λ same. (
             alone-behind g.L.Sectors.seen c.args.log c.plain-log.result c.format.new.log c.plain-log.ensures.inner c.plain-log.ensures.fuse same.0,
             alone-behind g.D.Sectors.seen c.args.store c.plain-store.result c.format.new.data_device c.plain-store.ensures.inner c.plain-store.ensures.fuse same.1,
           )))
-          w.in-Err.fault w.in-Err.ensures.calls (rw c.shape_of.ensures at w.in-Err.ensures.cause))
+          w.in-Err.fault w.in-Err.ensures.calls (rw c.shape_of-shape.ensures at w.in-Err.ensures.cause))
     ]
 
 pub returns-clause-entered : goal.returns-clause-entered
