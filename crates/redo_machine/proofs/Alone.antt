@@ -164,6 +164,7 @@ module _ {L D R : Type 0} (log_seen : L → Seen) (data_seen : D → Seen) (stan
   starts_alone = record {
     log_only = only;
     words = begins.at_start.words;
+    layout_is = begins.from.runs.running.layout_is;
     flat_is = begins.at_start.words_are;
     seat_of = begins.at_start.seat_of;
     writer = begins.at_start.writer;

@@ -92,6 +92,7 @@ append_played log_seen data_seen seen run parts l o mark before after r is appen
       data_served = untouched (run_data_side log_seen data_seen run) parts.store parts.store l (op.Append mark)
           (append_code after.failed) tt refl;
       own_served = own_code mark after.failed;
+      layout = refl;
       words = refl;
       lists = refl;
       answered = appended.answer_is ∙ said after.failed;

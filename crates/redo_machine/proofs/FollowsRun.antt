@@ -5,7 +5,7 @@ use Rattle.std.proofs.lemmas.Bool.{ne_eqb}
 use lib.ListN.{get_elem?}
 use mathlib.Core.Option.{some}
 use Rattle.model_core.proofs.Lsns.{lsn_le}
-use Rattle.model_core.specs.{archives, Entry, Given, index, IsWord, SharedWords}
+use Rattle.model_core.specs.{archives, Entry, Given, index, IsWord, layout_of, SharedWords}
 use Rattle.model_core.specs.Actors as model
 use Rattle.model_core.specs.NamedWords.{read}
 use Rattle.model_core.specs.Setup.{Setup}
@@ -55,9 +55,9 @@ module _ {L D R : Type 0} {archive : Bool} (log_seen : L → Seen) (data_seen : 
   follower : FollowerHas c m log after.state
   follower = subst (λ (b : Bool). HasByKind c m log b after.state) follows reader.has
 
-  word_is : (w : Word) → IsWord c.pages w → slice_index parts.words.words (index w) ≡ read m w
-  word_is w is = ap (λ (words : List ℕ). slice_index words (index w)) from.runs.running.flat_is
-      ∙ flat_read c.pages m from.runs.running.both.logged.sized w is
+  word_is : (w : Word) → IsWord (layout_of c) w → slice_index parts.words.words (index (layout_of c) w) ≡ read m w
+  word_is w is = ap (λ (words : List ℕ). slice_index words (index (layout_of c) w)) from.runs.running.flat_is
+      ∙ flat_read (layout_of c) m from.runs.running.both.logged.sized w is
 
   below : after.state.place ≤ m.flushed
   below =
@@ -66,7 +66,7 @@ module _ {L D R : Type 0} {archive : Bool} (log_seen : L → Seen) (data_seen : 
       let less = lsn_le after.state.at F.to (omega arith) in
       omega arith
 
-  few : IsWord c.pages (word.Place after.state.number)
+  few : IsWord (layout_of c) (word.Place after.state.number)
   few = let last = reader.last in let readers = from.runs.running.both.script.few_readers in omega arith
 
   under : slice_index m.places after.state.number ≤ after.state.place

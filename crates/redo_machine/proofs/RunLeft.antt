@@ -1,8 +1,8 @@
 -- What a run by turns leaves, and so what it comes to.
 use Rattle.std.proofs.Common.{Bool, List, Option, ap, arith, cond, false, is_some, length, refl, slice_index, subst}
 use Rattle.std.proofs.Common.{sym, true, ℕ, ◌∙◌, ◌<◌, ◌≡◌}
-use Rattle.model_core.specs.{Core, Given, HasLost, index, lsn}
-use Rattle.model_core.specs.declared.words.Word.TheVariants as word
+use Rattle.model_core.specs.{Core, Given, HasLost, lsn}
+use Rattle.model_core.specs.Layout.{failed_at}
 use Rattle.model_running.proofs.OpenLines as open_lines
 use Rattle.model_running.proofs.Seated.{seated_seats}
 use Rattle.model_running.proofs.TurnsAs.{plain_spent}
@@ -72,7 +72,7 @@ pub record TurnsLead {L D A R : Type 0} (log_seen : L → Seen) (log_gives : L �
   pub log : driven.closed.log ≡ last.log
   pub data_part : driven.closed.store ≡ last.store
   pub marks : driven.closed.marks ≡ marks_in last.words.words
-  pub code : driven.closed.code ≡ slice_index last.words.words (index word.Failed)
+  pub code : driven.closed.code ≡ slice_index last.words.words failed_at
   pub history : driven.closed.history ≡ history_of from.runs.running.log_ghost.answered
       (word_marks from.runs.running.shared) from.runs.running.log_ghost.log
   pub listed : ListsInOrder driven.closed.marks (views_of actors) driven.closed.history

@@ -42,9 +42,11 @@ pub record MayServeWith {L D A R : Type 0} (seen : A → Seen) (parts : Parts L 
   pub other : IsNoAppend (next (view_of actor)) → MayServe parts (view_of actor)
   pub append : (mark : ℕ) → next (view_of actor) ≡ op.Append mark → MayAppendTo seen archive mark × IsArchiver actor
   pub fits : (code mark : ℕ) → AnswerFits (view_of actor)
-      (answer_of (lists_of parts.lists) (is_some parts.log.failed) code mark parts.words.words (next (view_of actor)))
+      (answer_of parts.words.layout (lists_of parts.lists) (is_some parts.log.failed) code mark parts.words.words
+      (next (view_of actor)))
   pub mark : (code mark : ℕ) → MarkFits (view_of actor)
-      (answer_of (lists_of parts.lists) (is_some parts.log.failed) code mark parts.words.words (next (view_of actor)))
+      (answer_of parts.words.layout (lists_of parts.lists) (is_some parts.log.failed) code mark parts.words.words
+      (next (view_of actor)))
 
 -- THE BLOCK THAT THE ARCHIVER HAS READ WAS APPENDED, with this answer.
 pub record HasAppended {A R : Type 0} (seen : A → Seen) (gives : A → Call → A → Type 0) (old : Option (Part A))

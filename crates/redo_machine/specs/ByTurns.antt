@@ -1,10 +1,10 @@
 -- A whole run by turns: from the opened store to the closed one.
 use Rattle.std.specs.Prelude.{Bool, List, [], false, slice_index, true, ℕ, ◌<◌, ◌≡◌}
-use Rattle.model_core.specs.{Core, flat, index, Listed}
+use Rattle.model_core.specs.{Core, flat, Listed}
+use Rattle.model_core.specs.Layout.{failed_at}
 use Rattle.model_core.specs.Actors as model
 use Rattle.model_core.specs.DataSide.{DataSide}
 use Rattle.model_core.specs.LogSide.{LogSide}
-use Rattle.model_core.specs.declared.words.Word.TheVariants as word
 use Rattle.model_ownrun.specs.OwnRuns.{AskOrGo, own_store}
 use Rattle.model_running.specs.{AskAt, IsDone, IsSpent, TurnStore, actor_store, marks_in}
 use Rattle.model_script.specs.declared.script.ScriptLine.{ScriptLine}
@@ -33,7 +33,7 @@ EndsAs store seed max first (ran.Spent turns user) last = (turns ≡ max) × IsS
 pub record NothingIsDone {L D : Type 0} (log_seen : L → Seen) (data_seen : D → Seen) (opened : Opened L D)
     (script : List ScriptLine) (log_only archive : Bool) (followers : ℕ)
     (store : Core (turn_log_side log_seen) (turn_data_side data_seen)) : Type 0 where
-  pub words : store.words ≡ flat (first_words opened.start opened.pages)
+  pub words : store.words ≡ flat (first_words opened.shape.page_size opened.start opened.pages)
   pub actors : store.actors ≡ seated_actors opened.shape script opened.start log_only archive followers
   pub log : store.log_part ≡ opened.log
   pub data_part : store.data_part ≡ opened.store
@@ -68,7 +68,7 @@ module _ {L D : Type 0} (log_seen : L → Seen) (log_gives : L → Call → L �
       pub data_part : driven.closed.store ≡ (store.core last).data_part
       -- the marks and the code are those of the words at the end, and the history lists the groups of the actors
       pub marks : driven.closed.marks ≡ marks_in (store.core last).words
-      pub code : driven.closed.code ≡ slice_index (store.core last).words (index word.Failed)
+      pub code : driven.closed.code ≡ slice_index (store.core last).words failed_at
       pub history : ListsInOrder driven.closed.marks actors driven.closed.history
       -- where the log ran alone, without archiver and followers, and no user wrote for itself, turns that were spent
       -- are fewer than the greatest number that may be asked for

@@ -1,6 +1,6 @@
 -- A follower of a machine in its run.
 use Rattle.std.specs.Prelude.{List, slice_index, ℕ, ◌≡◌, ◌≤◌}
-use Rattle.model_core.specs.{Entry, Given, index, IsBound, lsn}
+use Rattle.model_core.specs.{Entry, flushed_at, Given, index, IsBound, lsn}
 use Rattle.model_core.specs.declared.words.Word.TheVariants as word
 use Rattle.model_running.specs.ReadHalf.{groups_upto}
 use Rattle.redo_drive.specs.declared.parts.Parts.{Parts}
@@ -16,7 +16,9 @@ pub record FollowsLog {L D R : Type 0} (stands : R → List Given → Type 0) (b
     (before after : Following R) : Type 0 where
   pub place : after.state.place ≡ lsn after.state.at
   pub bound : IsBound base log after.state.at
-  pub flushed : after.state.place ≤ slice_index parts.words.words (index word.Flushed)
-  pub stored : slice_index parts.words.words (index (word.Place after.state.number)) ≤ after.state.place
-  pub asked : parts.log.marks.asked ≤ slice_index parts.words.words (index (word.Place after.state.number))
+  pub flushed : after.state.place ≤ slice_index parts.words.words flushed_at
+  pub stored : slice_index parts.words.words (index parts.words.layout (word.Place after.state.number))
+      ≤ after.state.place
+  pub asked : parts.log.marks.asked
+      ≤ slice_index parts.words.words (index parts.words.layout (word.Place after.state.number))
   pub got : StandsFor stands before.receiver (groups_upto after.state.at log) after.receiver

@@ -1,7 +1,7 @@
 // A store after its run.
 ghost use Rattle.std.specs.Prelude.{◌≡◌, ◌≤◌, [], Bool, length, slice_index, vec_capacity};
 ghost use Rattle.model_core.specs.{index, IsWord};
-ghost use Rattle.model_core.specs.declared.words.Word.TheVariants as word_is;
+ghost use Rattle.model_core.specs.Layout.{failed_at};
 ghost use Rattle.model_running.specs.{history_of, marks_in, word_marks};
 ghost use Rattle.redo_drive.specs.History.{ListsInOrder};
 ghost use Rattle.redo_drive.specs.Playing.{RunOf};
@@ -20,10 +20,10 @@ use redo_words::{Op, PlainWords, Word, old_of};
 
 /// What stands in a word.
 fn word(words: &mut PlainWords, word: Word) -> u64
-    requires { IsWord words.old.pages word }
+    requires { IsWord words.old.layout word }
     ensures words { words.new.words ≡ words.old.words }
-    ensures pages { words.new.pages ≡ words.old.pages }
-    ensures value { result ≡ slice_index words.old.words (index word) }
+    ensures layout { words.new.layout ≡ words.old.layout }
+    ensures value { result ≡ slice_index words.old.words (index words.old.layout word) }
 {
     old_of(words.play(Op::Load(word)))
 }
@@ -31,7 +31,7 @@ fn word(words: &mut PlainWords, word: Word) -> u64
 /// The marks of a run.
 fn marks_in(words: &mut PlainWords) -> Marks
     ensures words { words.new.words ≡ words.old.words }
-    ensures pages { words.new.pages ≡ words.old.pages }
+    ensures layout { words.new.layout ≡ words.old.layout }
     ensures marks { result ≡ marks_in words.old.words }
 {
     Marks {
@@ -59,7 +59,7 @@ impl<L: Sectors, D: Sectors, A: Sectors, R: Receiver> Machine<L, D, A, R> {
         requires { AreOnRun L.seen D.seen self.parts (views_of self.actors.items) }
         ensures parts { (result.0.log ≡ self.parts.log) × (result.0.store ≡ self.parts.store) }
         ensures kept { (result.1.items ≡ self.actors.items) × (result.2 ≡ self.archive) × (result.0.lost ≡ lost_by self.archive) }
-        ensures code { result.0.code ≡ slice_index self.parts.words.words (index word_is.Failed) }
+        ensures code { result.0.code ≡ slice_index self.parts.words.words failed_at }
         ensures marks { result.0.marks ≡ marks_in self.parts.words.words }
         ensures history { (run : RunOf L D) (archive : Bool) (runs : RunsWith L.seen D.seen run archive self.parts (views_of self.actors.items))
             → self.entries.items ≡ [] → length runs.running.log_ghost.log ≤ vec_capacity self.entries

@@ -18,20 +18,20 @@ use redo_words::{Answer, Lent, Op, PlainWords, Word, old_of};
 
 /// Takes a turn word, if it is free.
 fn take_turn_word(words: &mut PlainWords, word: Word) -> bool
-    requires { IsWord words.old.pages word }
-    ensures free { result ≡ (slice_index words.old.words (index word) == 0) }
-    ensures pages { words.new.pages ≡ words.old.pages }
-    ensures words { words.new.words ≡ (if slice_index words.old.words (index word) == 0 then slice_set words.old.words (index word) 1 else words.old.words) }
+    requires { IsWord words.old.layout word }
+    ensures free { result ≡ (slice_index words.old.words (index words.old.layout word) == 0) }
+    ensures layout { words.new.layout ≡ words.old.layout }
+    ensures words { words.new.words ≡ (if slice_index words.old.words (index words.old.layout word) == 0 then slice_set words.old.words (index words.old.layout word) 1 else words.old.words) }
 {
     old_of(words.play(Op::Swap(word, 0, 1))) == 0
 }
 
 /// Gives a turn word back.
 fn give_turn_word(words: &mut PlainWords, word: Word) -> Answer
-    requires { IsWord words.old.pages word }
+    requires { IsWord words.old.layout word }
     ensures answer { result ≡ Answer.Taken None }
-    ensures pages { words.new.pages ≡ words.old.pages }
-    ensures words { words.new.words ≡ slice_set words.old.words (index word) 0 }
+    ensures layout { words.new.layout ≡ words.old.layout }
+    ensures words { words.new.words ≡ slice_set words.old.words (index words.old.layout word) 0 }
 {
     let _ = words.play(Op::Store(word, 0));
     Answer::Taken(None)
@@ -48,9 +48,9 @@ fn list_of(page: u32) -> Word
 fn take_device<L: Sectors, D: Sectors>(parts: &mut Parts<L, D>) -> Answer
     ensures pages { HasSamePages parts.old parts.new }
     ensures devices { HasSameDevices parts.old parts.new }
-    ensures words { parts.new.words.words ≡ words_left parts.old.words.words op.TakeDevice }
+    ensures words { parts.new.words.words ≡ words_left parts.old.words.layout parts.old.words.words op.TakeDevice }
     ensures lists { parts.new.lists ≡ parts.old.lists }
-    ensures answer { (code mark : ℕ) → result ≡ answer_of (lists_of parts.old.lists) (is_some parts.old.log.failed) code mark parts.old.words.words op.TakeDevice }
+    ensures answer { (code mark : ℕ) → result ≡ answer_of parts.old.words.layout (lists_of parts.old.lists) (is_some parts.old.log.failed) code mark parts.old.words.words op.TakeDevice }
 {
     if !take_turn_word(&mut parts.words, Word::Device) {
         return Answer::Held;
@@ -69,7 +69,7 @@ fn take_add<L: Sectors, D: Sectors>(parts: &mut Parts<L, D>, page: u32, oldest: 
     requires real { Each (λ listed. 0 < listed.oldest) (lists_of parts.old.lists (page % FLUSH_LISTS)) }
     ensures pages { HasSamePages parts.old parts.new }
     ensures devices { HasSameDevices parts.old parts.new }
-    ensures words { parts.new.words.words ≡ words_left parts.old.words.words (op.TakeAdd page oldest) }
+    ensures words { parts.new.words.words ≡ words_left parts.old.words.layout parts.old.words.words (op.TakeAdd page oldest) }
     ensures lists { lists_of parts.new.lists ≡ lists_left (lists_of parts.old.lists) (list_word parts.old.words.words) (op.TakeAdd page oldest) }
     ensures answer { result ≡ list_answer (list_word parts.old.words.words (page % FLUSH_LISTS)) None }
 {
@@ -85,7 +85,7 @@ fn take_remove<L: Sectors, D: Sectors>(parts: &mut Parts<L, D>, page: u32) -> An
     requires { 0 < oldest_of page (lists_of parts.old.lists (page % FLUSH_LISTS)) }
     ensures pages { HasSamePages parts.old parts.new }
     ensures devices { HasSameDevices parts.old parts.new }
-    ensures words { parts.new.words.words ≡ words_left parts.old.words.words (op.TakeRemove page) }
+    ensures words { parts.new.words.words ≡ words_left parts.old.words.layout parts.old.words.words (op.TakeRemove page) }
     ensures lists { lists_of parts.new.lists ≡ lists_left (lists_of parts.old.lists) (list_word parts.old.words.words) (op.TakeRemove page) }
     ensures answer { result ≡ list_answer (list_word parts.old.words.words (page % FLUSH_LISTS)) None }
 {
@@ -101,7 +101,7 @@ fn take_oldest<L: Sectors, D: Sectors>(parts: &mut Parts<L, D>, list: u32) -> An
     requires { list < FLUSH_LISTS }
     ensures pages { HasSamePages parts.old parts.new }
     ensures devices { HasSameDevices parts.old parts.new }
-    ensures words { parts.new.words.words ≡ words_left parts.old.words.words (op.TakeOldest list) }
+    ensures words { parts.new.words.words ≡ words_left parts.old.words.layout parts.old.words.words (op.TakeOldest list) }
     ensures lists { parts.new.lists ≡ parts.old.lists }
     ensures answer { result ≡ list_answer (list_word parts.old.words.words list) (oldest_end (lists_of parts.old.lists list)) }
 {

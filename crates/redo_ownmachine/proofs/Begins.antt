@@ -129,6 +129,7 @@ module _ {L D R : Type 0} {archive : Bool} (log_seen : L → Seen) (data_seen : 
         (own_core_of log_seen data_seen run start.parts seats)
     own_start = record {
       shared = begins.at_start.words;
+      layout_is = begins.from.runs.running.layout_is;
       flat_is = begins.at_start.words_are;
       lists_are = λ i n. begins.at_start.none_listed n i;
       seat_of = begins.at_start.seat_of;

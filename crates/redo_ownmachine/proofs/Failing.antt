@@ -107,6 +107,7 @@ module _ (D : LogSide) (E : DataSide) (c : Setup) (old new : OwnCore D E) (seat 
     as_actor : IsOpOf old.users k old.others o → Stays
     as_actor is =
         turn_keeps_failed D E c (with_writer old) (record {
+          layout = new.layout;
           words = new.words;
           log_part = new.log_part;
           data_part = new.data_part;
@@ -123,10 +124,11 @@ module _ (D : LogSide) (E : DataSide) (c : Setup) (old new : OwnCore D E) (seat 
           data_served = subst (λ (l : Lent). DataServed E old.data_part l (next is.who) t.code new.data_part) is.lends
               (subst (λ (x : Op). DataServed E old.data_part (own_lends o k) x t.code new.data_part) is.ops t.data_served);
           own_served = served_none (next is.who) (others_append_not is.who is.no_reader) t.code;
-          words = t.words ∙ ap (words_left old.words) is.ops;
+          layout = t.layout;
+          words = t.words ∙ ap (words_left old.layout old.words) is.ops;
           lists = t.lists ∙ ap (lists_left old.lists (list_word old.words)) is.ops;
           answered = t.answered
-              ∙ ap (answer_of old.lists (D.failed old.log_part) t.code (D.stable new.log_part) old.words) is.ops;
+              ∙ ap (answer_of old.layout old.lists (D.failed old.log_part) t.code (D.stable new.log_part) old.words) is.ops;
           actors = refl;
           ends = refl;
         }) failed
@@ -134,7 +136,7 @@ module _ (D : LogSide) (E : DataSide) (c : Setup) (old new : OwnCore D E) (seat 
     user_stays : Stays
     user_stays = ⊎_elim
         (λ same. subst (λ (n : ℕ). 0 < n) (sym (ap (λ (ws : List ℕ). slice_index ws 6) t.words ∙ same)) failed) as_actor
-        (plays_as D old.log_part old.users k old.others before.errands seat o t.who_is old.words 6 (λ e. omega arith))
+        (plays_as D old.log_part old.users k old.others before.errands seat o t.who_is old.layout old.words 6 (λ e. omega arith))
 
   pub own_turn_keeps_failed : OwnTurn D E old seat answer ends new → Stays
   own_turn_keeps_failed (inl t) = user_stays t

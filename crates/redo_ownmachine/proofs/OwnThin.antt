@@ -15,6 +15,7 @@ module _ {L D : Type 0} (log_seen : L → Seen) (data_seen : D → Seen) (run : 
   abbrev pub own_thin : OwnCore (run_log_side log_seen data_seen run) (run_data_side log_seen data_seen run)
       → OwnCore (turn_log_side log_seen) (turn_data_side data_seen)
   own_thin s = record {
+    layout = s.layout;
     words = s.words;
     log_part = s.log_part;
     data_part = s.data_part;
@@ -37,6 +38,7 @@ module _ {L D : Type 0} (log_seen : L → Seen) (data_seen : D → Seen) (run : 
           (own_next u.who old.work) u.log_served;
       data_served = data_thin log_seen data_seen run old.data_part new.data_part u.code (own_lends u.who old.work)
           (own_next u.who old.work) u.data_served;
+      layout = u.layout;
       words = u.words;
       lists = u.lists;
       answered = u.answered;

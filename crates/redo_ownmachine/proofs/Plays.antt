@@ -11,6 +11,7 @@ use Rattle.model_core.specs.LogSide.{LogSide}
 use Rattle.model_core.specs.ReaderProgram.{Filling}
 use Rattle.model_core.specs.declared.ops.Op.{Op}
 use Rattle.model_core.specs.declared.ops.Op.TheVariants as op
+use Rattle.model_core.specs.declared.words.Layout.{Layout}
 use Rattle.model_core.specs.declared.words.Word.TheVariants as word
 use Rattle.model_own.specs.OwnTurn.{all_actors}
 use Rattle.model_own.specs.OwnWrites.{errand_lends, errand_op, LogWork, own_lends, own_next, OwnUser}
@@ -37,8 +38,8 @@ pub record IsOpOf (users : List OwnUser) (k : LogWork) (others : List Actor) (o 
   pub lends : own_lends o k ≡ lent (filled who nothing)
 
 -- the word at this place stays
-abbrev pub LeavesWord : List ℕ → ℕ → Op → Type 0
-LeavesWord ws i o = slice_index (words_left ws o) i ≡ slice_index ws i
+abbrev pub LeavesWord : Layout → List ℕ → ℕ → Op → Type 0
+LeavesWord layout ws i o = slice_index (words_left layout ws o) i ≡ slice_index ws i
 
 -- DEVICE's turn is another word
 module _ (ws : List ℕ) (i : ℕ) (other : i ≡ 7 → ⊥) where
@@ -50,8 +51,8 @@ module _ (ws : List ℕ) (i : ℕ) (other : i ≡ 7 → ⊥) where
   taken_aside false = refl
 
 module _ (D : LogSide) (p : D.Part) (users : List OwnUser) (k : LogWork) (others : List Actor)
-    (errands : Errands D p users k) (seat : ℕ) (o : OwnUser) (at : get_elem? users seat ≡ some o) (ws : List ℕ) (i : ℕ)
-    (other : i ≡ 7 → ⊥) where
+    (errands : Errands D p users k) (seat : ℕ) (o : OwnUser) (at : get_elem? users seat ≡ some o) (layout : Layout)
+    (ws : List ℕ) (i : ℕ) (other : i ≡ 7 → ⊥) where
   abbrev asked : Bool → Op → Op
   asked b x = cond b (op.Load word.Failed) x
 
@@ -60,7 +61,7 @@ module _ (D : LogSide) (p : D.Part) (users : List OwnUser) (k : LogWork) (others
       (in_hand D p users k errands seat o at (ap has_work is ∙ has))
 
   by_errand : o.user.checks ≡ false → (x : ErrandStep) → o.errand ≡ x
-      → LeavesWord ws i (own_next o k) ⊎ IsOpOf users k others o
+      → LeavesWord layout ws i (own_next o k) ⊎ IsOpOf users k others o
   by_errand asks errand_step.Done is = inr (record {
     seat = seat;
     who = actor.User o.user;
@@ -71,12 +72,12 @@ module _ (D : LogSide) (p : D.Part) (users : List OwnUser) (k : LogWork) (others
     lends = ap (errand_lends k) is;
   })
   by_errand asks errand_step.TakeDevice is = inl
-      (ap (λ (b : Bool). slice_index (words_left ws (asked b (errand_op o k o.errand))) i) asks
-      ∙ ap (λ (x : ErrandStep). slice_index (words_left ws (errand_op o k x)) i) is
+      (ap (λ (b : Bool). slice_index (words_left layout ws (asked b (errand_op o k o.errand))) i) asks
+      ∙ ap (λ (x : ErrandStep). slice_index (words_left layout ws (errand_op o k x)) i) is
       ∙ taken_aside ws i other (slice_index ws 7 == 0))
   by_errand asks errand_step.GiveBroken is = inl
-      (ap (λ (b : Bool). slice_index (words_left ws (asked b (errand_op o k o.errand))) i) asks
-      ∙ ap (λ (x : ErrandStep). slice_index (words_left ws (errand_op o k x)) i) is
+      (ap (λ (b : Bool). slice_index (words_left layout ws (asked b (errand_op o k o.errand))) i) asks
+      ∙ ap (λ (x : ErrandStep). slice_index (words_left layout ws (errand_op o k x)) i) is
       ∙ device_aside ws i other 0)
   by_errand asks errand_step.Write is = inr (record {
     seat = writer_seat users;
@@ -102,9 +103,9 @@ module _ (D : LogSide) (p : D.Part) (users : List OwnUser) (k : LogWork) (others
   })
 
   -- A USER'S OP leaves each word but DEVICE's turn, or it is an actor's.
-  pub plays_as : LeavesWord ws i (own_next o k) ⊎ IsOpOf users k others o
+  pub plays_as : LeavesWord layout ws i (own_next o k) ⊎ IsOpOf users k others o
   plays_as = by o.user.checks refl
     where
-      by : (b : Bool) → o.user.checks ≡ b → LeavesWord ws i (own_next o k) ⊎ IsOpOf users k others o
-      by true asks = inl (ap (λ (b : Bool). slice_index (words_left ws (asked b (errand_op o k o.errand))) i) asks)
+      by : (b : Bool) → o.user.checks ≡ b → LeavesWord layout ws i (own_next o k) ⊎ IsOpOf users k others o
+      by true asks = inl (ap (λ (b : Bool). slice_index (words_left layout ws (asked b (errand_op o k o.errand))) i) asks)
       by false asks = by_errand asks o.errand refl

@@ -3,9 +3,9 @@ use Rattle.std.proofs.Common.{Bool, List, Option, ap, is_some, length, refl, sli
 use Rattle.std.proofs.Common.{⊎_elim, ℕ, ◌∙◌, ◌≡◌}
 use lib.ListN.{get_elem?}
 use Rattle.model_base.specs.declared.shape.Shape.{Shape}
-use Rattle.model_core.specs.{filled, Given, index, lent, lsn, next}
+use Rattle.model_core.specs.{filled, Given, lent, lsn, next}
 use Rattle.model_core.specs.Actors as model
-use Rattle.model_core.specs.declared.words.Word.TheVariants as word
+use Rattle.model_core.specs.Layout.{failed_at}
 use Rattle.model_core.specs.declared.ops.Step.{Step}
 use Rattle.model_own.specs.OwnTurn.{OwnCore, OwnTurn, with_writer}
 use Rattle.model_own.specs.OwnWrites.{own_lends, own_next}
@@ -104,7 +104,7 @@ pub record OwnTurnsLead {L D A R : Type 0} (log_seen : L → Seen) (log_gives : 
   pub log : driven.closed.log ≡ last.parts.log
   pub data_part : driven.closed.store ≡ last.parts.store
   pub marks : driven.closed.marks ≡ marks_in last.parts.words.words
-  pub code : driven.closed.code ≡ slice_index last.parts.words.words (index word.Failed)
+  pub code : driven.closed.code ≡ slice_index last.parts.words.words failed_at
   pub history : driven.closed.history ≡ history_of comes.from.runs.running.log_ghost.answered
       (word_marks comes.from.runs.running.shared) comes.from.runs.running.log_ghost.log
   pub listed : ListsInOrder driven.closed.marks (views_of (crew_of last)) driven.closed.history

@@ -65,7 +65,7 @@ module _ {L D : Type 0} (parts : Parts L D) (o : OwnUser) (k : LogWork) (goes : 
   asked b x = cond b (op.Load word.Failed) (errand_op o k x)
 
   abbrev said : ℕ → ℕ → Op → Answer
-  said code mark a = answer_of (lists_of parts.lists) (is_some parts.log.failed) code mark parts.words.words a
+  said code mark a = answer_of parts.words.layout (lists_of parts.lists) (is_some parts.log.failed) code mark parts.words.words a
 
   -- what holds of an Op with what is lent for it, and of its answers
   record Asks (a : Op) (l : model.Lent) (Fits : Answer → Type 0) : Type 0 where
@@ -204,8 +204,8 @@ pub user_fits : {L D : Type 0} (log_seen : L → Seen) (data_seen : D → Seen) 
 user_fits log_seen data_seen old new o k may a is given lends r played =
     let did = played (some_run old) (own_lends o k) lends
     (subst (λ (z : Op). HasWholePages old.store.shape z (own_lends o k)) (sym is) may.whole) in
-    let said : ◌≡◌ {A = Answer} r (answer_of (lists_of old.lists) (is_some old.log.failed) did.code
+    let said : ◌≡◌ {A = Answer} r (answer_of old.words.layout (lists_of old.lists) (is_some old.log.failed) did.code
     new.log.marks.stable old.words.words (own_next o k)) =
-    did.answered ∙ ap {B = Answer} (λ (z : Op). answer_of (lists_of old.lists) (is_some old.log.failed) did.code
+    did.answered ∙ ap {B = Answer} (λ (z : Op). answer_of old.words.layout (lists_of old.lists) (is_some old.log.failed) did.code
     new.log.marks.stable old.words.words z) is in
     subst (λ (z : Answer). OwnAnswerFits o k z) (sym said) (may.fits did.code new.log.marks.stable)

@@ -59,9 +59,9 @@ module _ {L D : Type 0} (log_seen : L → Seen) (data_seen : D → Seen) (run : 
           started = R.runs.started;
           its_pages = R.runs.its_pages;
           its_page_size = R.runs.its_page_size;
+          its_slots = R.runs.its_slots;
           followers = R.runs.followers;
           bytes = R.runs.bytes;
-          word_pages = same.words ∙ R.runs.word_pages;
           list_pages = same.lists ∙ R.runs.list_pages;
           running = left.running;
           seated = own_turn_keeps_seats A B run.setup (own_core_of log_seen data_seen run old seats)
@@ -109,6 +109,7 @@ module _ {L D : Type 0} (log_seen : L → Seen) (data_seen : D → Seen) (run : 
     code = played.code;
     log_served = played.log_served;
     data_served = played.data_served;
+    layout = played.layout;
     words = played.words;
     lists = played.lists;
     answered = played.answered;
@@ -166,6 +167,7 @@ module _ {L D R : Type 0} (log_seen : L → Seen) (log_gives : L → Call → L 
     log_served = played.log_served;
     data_served = played.data_served;
     own_served = played.own_served;
+    layout = played.layout;
     words = played.words;
     lists = played.lists;
     answered = played.answered;

@@ -8,7 +8,8 @@ use Rattle.model_core.specs.Actors as model
 use Rattle.model_core.specs.DataSide.{DataSide}
 use Rattle.model_core.specs.LogSide.{LogSide}
 use Rattle.model_core.specs.declared.ops.Step.{Step}
-use Rattle.model_core.specs.{Entry, flat, lsn, next, ReaderState, shared_left, SharedWords, words_left}
+use Rattle.model_core.specs.declared.words.Layout.{Layout}
+use Rattle.model_core.specs.{Entry, flat, layout_of, lsn, next, ReaderState, shared_left, SharedWords, words_left}
 use Rattle.model_ends.proofs.Sizes.{sn_within}
 use Rattle.model_ends.specs.Bound.{bytes_of, last_lsn}
 use Rattle.model_log.specs.{IsRunOf}
@@ -106,12 +107,12 @@ module _ {L D R : Type 0} {archive : Bool} (log_seen : L → Seen) (data_seen : 
 
   -- FLUSHED doesn't go back: each of its Ops is one of a running store, or leaves it
   up : before_flushed ≤ now_flushed
-  up = ⊎_elim stays by_actor (plays_as E old.log users work (views_of others) before.errands seat who at old.words.words
-      3 (λ e. omega arith))
+  up = ⊎_elim stays by_actor (plays_as E old.log users work (views_of others) before.errands seat who at old.words.layout
+      old.words.words 3 (λ e. omega arith))
     where
-      stays : slice_index (words_left old.words.words (own_next who work)) 3 ≡ before_flushed → before_flushed ≤ now_flushed
+      stays : slice_index (words_left old.words.layout old.words.words (own_next who work)) 3 ≡ before_flushed → before_flushed ≤ now_flushed
       stays same =
-          let now : now_flushed ≡ slice_index (words_left old.words.words (own_next who work)) 3 =
+          let now : now_flushed ≡ slice_index (words_left old.words.layout old.words.words (own_next who work)) 3 =
           ap (λ (ws : List ℕ). slice_index ws 3) served.played.words in
           omega arith
 
@@ -122,9 +123,10 @@ module _ {L D R : Type 0} {archive : Bool} (log_seen : L → Seen) (data_seen : 
           let there = next_words E F run.setup m W.log_ghost W.page_ghost (lists_of old.lists) old.log old.store
           (actors_of seats) is.seat W.both is.who is.there in
           let words : ◌≡◌ {A = List ℕ} new.words.words (flat (shared_left m (next is.who))) =
-          served.played.words ∙ ap (words_left old.words.words) is.ops
-          ∙ ap (λ (ws : List ℕ). words_left ws (next is.who)) W.flat_is
-          ∙ flat_left run.setup.pages m W.both.logged.sized (next is.who) there in
+          served.played.words ∙ ap (words_left old.words.layout old.words.words) is.ops
+          ∙ ap (λ (ws : List ℕ). words_left old.words.layout ws (next is.who)) W.flat_is
+          ∙ ap (λ (l : Layout). words_left l (flat m) (next is.who)) W.layout_is
+          ∙ flat_left (layout_of run.setup) m W.both.logged.sized (next is.who) there in
           let now : now_flushed ≡ (shared_left m (next is.who)).flushed = ap (λ (ws : List ℕ). slice_index ws 3) words in
           let was : before_flushed ≡ m.flushed = ap (λ (ws : List ℕ). slice_index ws 3) W.flat_is in
           let rise = rises E F run.setup m W.log_ghost W.page_ghost (lists_of old.lists) old.log old.store

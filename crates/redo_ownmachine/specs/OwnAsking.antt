@@ -15,6 +15,7 @@ use Rattle.redo_ownmachine.specs.OwnSeats.{OwnSeats}
 abbrev pub own_core_of : {L D : Type 0} (log_seen : L → Seen) (data_seen : D → Seen) (run : RunOf L D) → Parts L D
     → OwnSeats → OwnCore (run_log_side log_seen data_seen run) (run_data_side log_seen data_seen run)
 own_core_of log_seen data_seen run parts seats = record {
+  layout = parts.words.layout;
   words = parts.words.words;
   log_part = parts.log;
   data_part = parts.store;

@@ -22,8 +22,8 @@ pub record MayServeUser {L D : Type 0} (parts : Parts L D) (who : OwnUser) (work
   pub playable : (l : Lent) → Lends l (own_lends who work) → IsPlayable parts (own_next who work) l
   pub whole : HasWholePages parts.store.shape (own_next who work) (own_lends who work)
   pub no_read : (lsn : ℕ) → own_next who work ≢ op.ReadBlock lsn
-  pub fits : (code mark : ℕ) → OwnAnswerFits who work (answer_of (lists_of parts.lists) (is_some parts.log.failed) code
-      mark parts.words.words (own_next who work))
+  pub fits : (code mark : ℕ) → OwnAnswerFits who work (answer_of parts.words.layout (lists_of parts.lists)
+      (is_some parts.log.failed) code mark parts.words.words (own_next who work))
 
 -- It has had its turn, with this answer.
 pub record IsUserServed {L D : Type 0} (log_seen : L → Seen) (data_seen : D → Seen) (run : RunOf L D)

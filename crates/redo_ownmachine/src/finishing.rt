@@ -1,7 +1,6 @@
 // A store after its run, where users wrote for themselves.
 ghost use Rattle.std.specs.Prelude.{◌≡◌, ◌≤◌, [], Bool, length, slice_index, vec_capacity};
-ghost use Rattle.model_core.specs.{index};
-ghost use Rattle.model_core.specs.declared.words.Word.TheVariants as word_is;
+ghost use Rattle.model_core.specs.Layout.{failed_at};
 ghost use Rattle.model_running.specs.{history_of, marks_in, word_marks};
 ghost use Rattle.redo_drive.specs.History.{ListsInOrder};
 ghost use Rattle.redo_drive.specs.Playing.{RunOf};
@@ -27,7 +26,7 @@ impl<L: Sectors, D: Sectors, A: Sectors, R: Receiver + Drop> OwnMachine<L, D, A,
         requires room { HasRoom self }
         ensures parts { (result.0.log ≡ self.parts.log) × (result.0.store ≡ self.parts.store) }
         ensures kept { (result.1.items ≡ crew_of self) × (result.2 ≡ self.archive) × (result.0.lost ≡ lost_by self.archive) }
-        ensures code { result.0.code ≡ slice_index self.parts.words.words (index word_is.Failed) }
+        ensures code { result.0.code ≡ slice_index self.parts.words.words failed_at }
         ensures marks { result.0.marks ≡ marks_in self.parts.words.words }
         ensures history { (run : RunOf L D) (archive : Bool) (runs : RunsWith L.seen D.seen run archive self.parts (views_of (crew_of self)))
             → self.entries.items ≡ [] → length runs.running.log_ghost.log ≤ vec_capacity self.entries

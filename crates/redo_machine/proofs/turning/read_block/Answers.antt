@@ -25,7 +25,7 @@ returns-in-Archiver-clause-read g c =
       played = λ run. played.log_played g.L.Sectors.seen g.D.Sectors.seen run (model.Room call.new.room) old
           (op.ReadBlock c.args.lsn)
           (record { words = old.words; log = call.new.log; store = old.store; lists = old.lists }) c.answer_of.result
-          refl refl (op.ReadBlock c.args.lsn) refl tt refl call.ensures.read
+          refl refl refl (op.ReadBlock c.args.lsn) refl tt refl call.ensures.read
           (c.answer_of.ensures ∙ ap (λ (e : Option DevError). call_answer Log e 0) (sym call.ensures.ended));
     }
 
@@ -42,7 +42,7 @@ returns-in-Follower-clause-read g c =
           (op.ReadBlock c.args.lsn)
           (record { words = old.words; log = call.new.log; store = old.store; lists = old.lists })
           c.answer_of-in-Follower.result
-          refl refl (op.ReadBlock c.args.lsn) refl tt refl call.ensures.read
+          refl refl refl (op.ReadBlock c.args.lsn) refl tt refl call.ensures.read
           (c.answer_of-in-Follower.ensures ∙ ap (λ (e : Option DevError). call_answer Log e 0) (sym call.ensures.ended));
     }
 

@@ -1,7 +1,6 @@
 -- Where the vector has room for all groups, what the users tell in lsn order is the history of each run that this machine is on.
 use Rattle.std.proofs.Common.{List, ap, arith, get_or, length, slice_index, subst, sym, ℕ, ◌<◌, ◌∙◌, ◌≡◌}
-use Rattle.model_core.specs.{index}
-use Rattle.model_core.specs.declared.words.Word.TheVariants as word
+use Rattle.model_core.specs.Layout.{failed_at}
 use Rattle.model_running.proofs.Finished.{marks_same}
 use Rattle.model_running.specs.{word_marks}
 use Rattle.model_report.specs.declared.entry.Marks.{Marks}
@@ -18,7 +17,7 @@ overflow_cast-code g c =
     let R = c.requires in
     let small = small_code g.L.Sectors.seen g.D.Sectors.seen R.run c.args.self.parts
     (views_of c.args.self.actors.items) R.runs in
-    let value : c.word-code.result ≡ slice_index c.args.self.parts.words.words (index word.Failed) = c.word-code.ensures.value ∙ ap (λ (ws : List ℕ). slice_index ws (index word.Failed)) c.marks_in-marks.ensures.words in
+    let value : c.word-code.result ≡ slice_index c.args.self.parts.words.words failed_at = c.word-code.ensures.value ∙ ap (λ (ws : List ℕ). slice_index ws failed_at) c.marks_in-marks.ensures.words in
     omega arith
 
 pub history_of-history-requires : goal.history_of-history-requires
