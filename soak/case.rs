@@ -183,7 +183,7 @@ impl Case<'_> {
         let mut options = Options {
             followers,
             own_writes,
-            ..Options::draw(&mut self.draws, files, threads, script.len())
+            ..Options::draw(&mut self.draws, files, threads, script.len(), &store.shape)
         };
         if archive {
             options = options.archived();
@@ -320,7 +320,14 @@ impl Case<'_> {
         let words = format!("gen {seed} {users} {groups}");
         let call = self.call(&words_of(&words), "")?;
         call.answers(0, &text)?;
-        let mut options = Options::draw(&mut self.draws, false, self.all_threads, script.len());
+        let store = Store::default_sizes();
+        let mut options = Options::draw(
+            &mut self.draws,
+            false,
+            self.all_threads,
+            script.len(),
+            &store.shape,
+        );
         let is_summed = self.draws.once_in(2);
         if is_summed {
             options = Options::of_generated(seed);
@@ -328,7 +335,7 @@ impl Case<'_> {
             options.own_writes = draw_own_writes(&mut self.beside, self.all_own, options.threads);
         }
         let call = self.call_run(&options, &text, false)?;
-        self.check_call(&Store::default_sizes(), &script, &options, &call)?;
+        self.check_call(&store, &script, &options, &call)?;
         if is_summed {
             self.check_summary(&words, &call)
         } else {

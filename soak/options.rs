@@ -1,6 +1,7 @@
 //! The words of a run: its turns or threads, its stops, its pick.
 
 use crate::draws::Draws;
+use crate::shape::Shape;
 
 const MOST_FOLLOWERS: u64 = 4;
 
@@ -24,7 +25,14 @@ pub struct Options {
 }
 
 impl Options {
-    pub fn draw(draws: &mut Draws, files: bool, threads: bool, groups: usize) -> Options {
+    /// Those of a run of so many groups, on a store of this shape.
+    pub fn draw(
+        draws: &mut Draws,
+        files: bool,
+        threads: bool,
+        groups: usize,
+        shape: &Shape,
+    ) -> Options {
         let crashes = !draws.once_in(8);
         let stops = crashes && !draws.once_in(4);
         let which = draws.below(3);
@@ -40,7 +48,8 @@ impl Options {
                 .once_in(40)
                 .then(|| draws.number() >> draws.within(40, 63)),
             stop_log: (stops && which != 0).then(|| draw_stop(draws, 21, 4 * groups as u64)),
-            stop_data: (stops && which != 1).then(|| draw_stop(draws, 10, 22)),
+            stop_data: (stops && which != 1)
+                .then(|| draw_stop(draws, 2 + u64::from(shape.pages), 22)),
             pick: crashes.then(|| draw_pick(draws)).flatten(),
             followers: 0,
         }
