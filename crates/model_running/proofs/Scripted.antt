@@ -7,7 +7,7 @@ use Rattle.std.proofs.lemmas.List.{get_or_past}
 use Rattle.std.specs.List.{AllByRecursion}
 use Rattle.std.specs.Prelude.{slice_index}
 use native.Mathlib.Decide.{dec_le, ℕ_discrete}
-use Rattle.model_base.proofs.ShapeLimits.{whole_sectors}
+use Rattle.model_base.proofs.ShapeLimits.{slots_within, whole_sectors}
 use Rattle.model_base.specs.{IsPageSize, IsWithinLimits, user_length}
 use Rattle.model_base.specs.declared.shape.Shape.{Shape}
 use Rattle.model_core.specs.{after_from, cell_where_same, changed_cells, change_on, changes_of, collected, CellWrite, change_at, IsScripted, Line, line_at, PageChange}
@@ -223,7 +223,7 @@ module _ (c : Setup) (script : List ScriptLine) (shape : Shape) (limits : IsWith
     some_page = some;
     there = λ user j k l. let z = (below user j).there k l in omega arith;
     page_size = subst IsPageSize (sym size) limits.page_size;
-    slots = (let some = limits.slots in omega arith);
+    slots = (slots_within shape limits).some;
     apart = λ user j i k lt l e. let z = (below user j).ascending i k lt l in absurd (omega arith);
     within = λ user j k i l. let z = (below user j).within k i l in omega arith;
     ascending = ascend;

@@ -1,6 +1,6 @@
 -- The page size is one that a page may have, and there is room for each byte of a batch.
 use Rattle.std.proofs.Common.{arith, rules}
-use Rattle.model_base.proofs.ShapeLimits.{whole_sectors}
+use Rattle.model_base.proofs.ShapeLimits.{slots_within, whole_sectors}
 use Rattle.redo_pageactors.proofs.cleaner.Cleaner.new.Goals as goal
 
 pub overflow_sub-page : goal.overflow_sub-page
@@ -10,7 +10,7 @@ pub invariant_of-result : goal.invariant_of-result
 invariant_of-result c = let size = whole_sectors c.args.shape.now c.requires in record {
   page = omega arith;
   page_size = size;
-  some_slots = (let eight = c.requires.slots in omega arith);
+  some_slots = (slots_within c.args.shape.now c.requires).some;
   kept = search rules;
   batch = search rules;
   users = search rules;
