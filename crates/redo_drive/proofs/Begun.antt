@@ -7,7 +7,7 @@ use Rattle.model_parts.specs.{first_marks, first_tails, IsLive, IsUpTo, numbers_
 use Rattle.model_parts.specs.Stored.{Stored}
 use Rattle.model_device.specs.Disk.{Disk}
 use Rattle.model_log.specs.declared.head.Format.{Format}
-use Rattle.model_log.specs.declared.head.Format.TheVariants.{One, Two}
+use Rattle.model_log.specs.declared.head.Format.TheVariants.{One, Two, Three}
 use Rattle.model_running.specs.{kept_content}
 use Rattle.model_parts.specs.declared.marks.LogMarks.{LogMarks}
 use Rattle.model_parts.specs.declared.marks.TailMarks.{TailMarks}
@@ -40,6 +40,7 @@ few_numbers : (format : Format) (found number ckpt : ℕ) → number ≡ found +
     → number ≤ 2 ^ 63 + ckpt / 512
 few_numbers One found number ckpt is left started = omega arith
 few_numbers Two found number ckpt is left started = omega arith
+few_numbers Three found number ckpt is left started = omega arith
 
 module _ (reading : Reading) (script : List ScriptLine) (log_disk data_disk : Disk) (is : IsStart reading script log_disk data_disk) where
   -- the log device

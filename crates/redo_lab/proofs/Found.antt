@@ -6,7 +6,7 @@ use Rattle.model_base.specs.declared.shape.Shape.{Shape}
 use Rattle.model_device.specs.Disk.{Disk}
 use Rattle.model_log.specs.{fits_checksum, head_among, head_of, header_block, layout_of, newest_checkpoint, read_head}
 use Rattle.model_log.specs.declared.head.Format.{Format}
-use Rattle.model_log.specs.declared.head.Format.TheVariants.{One, Two}
+use Rattle.model_log.specs.declared.head.Format.TheVariants.{One, Two, Three}
 use Rattle.model_log.specs.declared.head.Head.TheVariants.{Unformatted}
 use Rattle.model_page.specs.declared.content.Content.{Content}
 use Rattle.model_parts.proofs.Unread.{unsealed-head, zeros-unsealed}
@@ -136,6 +136,7 @@ found-checkpoint reading log data_disk openable =
 some-taken : (format : Format) → 0 < numbers_taken format
 some-taken One = omega arith
 some-taken Two = omega arith
+some-taken Three = omega arith
 
 -- is older than those that opening makes
 pub held-older : (reading : Reading) (log data_disk : Disk) → IsOpenable reading log data_disk
