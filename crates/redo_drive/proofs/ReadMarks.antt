@@ -1,14 +1,14 @@
 -- What reads give of a log device on which no call failed: the run up to the written mark, from the newest checkpoint
 -- on.
-use Rattle.std.proofs.Common.{List, Some, ap, arith, inl, refl, subst, ℕ, ◌∙◌, ◌≡◌}
+use Rattle.std.proofs.Common.{List, ap, arith, inl, refl, subst, ℕ, ◌∙◌, ◌≡◌, Some}
 use Rattle.model_base.specs.declared.shape.Shape.{Shape}
 use Rattle.model_device.specs.{synced}
 use Rattle.model_device.specs.Disk.{Disk}
-use Rattle.model_log.proofs.Formats.{run_format-layout}
 use Rattle.model_log.proofs.Several.{one_group}
-use Rattle.model_log.specs.{newest_checkpoint, run_format, run_layout}
+use Rattle.model_log.specs.{newest_checkpoint, run_layout, run_format}
 use Rattle.model_log.specs.declared.group.Whole.{Whole}
 use Rattle.model_log.specs.declared.layout.Layout.{Layout}
+use Rattle.model_log.proofs.Formats.{run_format-layout}
 use Rattle.model_parts.proofs.Checkpoints.{synced-live}
 use Rattle.model_parts.proofs.LogCrash.{crash-reads}
 use Rattle.model_parts.specs.{after_synced, CrashReads, FitsStore, IsLive, LogHolds, tails_synced}
@@ -54,15 +54,16 @@ read_to_marks shape s wholes marks tails disk data_bytes left fits live asked is
     let found : HasScan log data_bytes (run_format shape) shape left.number left.ckpt left.views left.wholes left.end =
     subst (λ f. HasScan log data_bytes f shape left.number left.ckpt left.views left.wholes left.end) head.0 on_shape in
     let checkpoint : newest_checkpoint layout log ≡ Some (left.number, left.ckpt) =
-    subst (λ (l : Layout). newest_checkpoint l log ≡ Some (left.number, left.ckpt)) (run_format-layout shape) found.checkpoint in
+    subst (λ (l : Layout). newest_checkpoint l log ≡ Some (left.number, left.ckpt)) (run_format-layout shape)
+    found.checkpoint in
     let newest = same_some (newest_checkpoint layout log) (left.number, left.ckpt) (reads.number, reads.ckpt)
     checkpoint reads.newest in
     let ckpt : left.ckpt ≡ reads.ckpt = ap (λ pair. pair.1) newest in
-    let scanned : IsScan shape layout.blocks (taken layout log) left.ckpt left.views left.wholes left.end =
+    let own : IsScan shape layout.blocks (taken layout log) left.ckpt left.views left.wholes left.end =
     subst (λ (l : Layout). IsScan shape l.blocks (taken l log) left.ckpt left.views left.wholes left.end)
     (run_format-layout shape) found.scan in
     let scan = subst (λ from. IsScan shape layout.blocks (taken layout log) from left.views left.wholes left.end) ckpt
-    scanned in
+    own in
     let same = same_scan one_group shape layout.blocks (taken layout log) reads.ckpt left.views reads.scan.views
     left.wholes reads.scan.middle left.end reads.scan.mark scan reads.scan.scan in
     let from = reads.scan.from in

@@ -1,5 +1,5 @@
 -- The checkpoints of opening.
-use Rattle.std.proofs.Common.{◌≡◌, ◌+◌, ◌*◌, ℕ, inl, inr, List, length, sym, ap, subst, ◌∙◌, arith, ◌≢◌}
+use Rattle.std.proofs.Common.{◌≡◌, ◌+◌, ◌*◌, ℕ, inl, inr, List, length, sym, ap, subst, ◌∙◌, arith, ◌≢◌, ⊎_elim, ◌⊎◌}
 use Rattle.std.specs.Prelude.{Result, Ok, Err}
 use Rattle.std.proofs.lemmas.Result.{on_err_weaker, on_ok_weaker}
 use Rattle.model_base.specs.declared.shape.Shape.{Shape}
@@ -7,7 +7,7 @@ use Rattle.model_device.specs.{sector}
 use Rattle.model_device.specs.Disk.{Disk}
 use Rattle.model_log.specs.{log_device_length, place_of}
 use Rattle.model_log.specs.declared.head.Format.{Format}
-use Rattle.model_log.specs.declared.head.Format.TheVariants.{One}
+use Rattle.model_log.specs.declared.head.Format.TheVariants.{One, Two, Three}
 use Rattle.model_parts.specs.{IsPut, next_number}
 use Rattle.model_parts.proofs.Newest.{checkpoint-place}
 use Rattle.redo_disk.specs.Seen.{Seen}
@@ -45,6 +45,12 @@ mark-fails format shape number lsn old error new step =
       size = step.size;
       cause = step.cause;
     }
+
+-- formats 2 and 3 are others than the first
+pub two-or_three : (format : Format) → (format ≡ Two) ⊎ (format ≡ Three) → format ≢ One
+two-or_three format is same =
+    ⊎_elim (λ two. let other : Two ≡ One = sym two ∙ same in absurd cc)
+    (λ three. let other : Three ≡ One = sym three ∙ same in absurd cc) is
 
 pub mark-other : (format : Format) (shape : Shape) (number lsn : ℕ) (old : Seen) (done : Unit {0}) (new : Seen) → format ≢ One
     → PutStep (place_of (next_number number)) (next_text format shape number lsn) old (Ok done) new → MarkStep format shape number lsn old (Ok done) new

@@ -2,6 +2,7 @@
 use Rattle.std.proofs.Common.{arith}
 use Rattle.model_parts.specs.{IsStaleTail}
 use Rattle.redo_open.specs.Clear.{IsStale, ring_end}
+use Rattle.redo_open.proofs.Marks.{two-or_three}
 use Rattle.redo_open.proofs.Puts.{put_nothing, put_weaker}
 use Rattle.redo_open.proofs.Zeroing.{erase_as, erase_nothing, within-longer}
 use Rattle.redo_open.proofs.clear.clear_tails.Goals as goal
@@ -18,7 +19,7 @@ pub returns-in-Two-clause-step : goal.returns-in-Two-clause-step
 returns-in-Two-clause-step g c =
     erase_as (IsStale c.args.tail) (IsStaleTail c.args.layout.now c.args.tail) 3072 (ring_end c.args.layout.now) (g.L.Sectors.seen c.args.log.now) c.clear_both_tails.result
     (g.L.Sectors.seen c.clear_both_tails.new.log) (omega (arith, c.requires.is_layout.after_header, c.requires.is_layout.many_blocks))
-    (λ k is. record { format = c.in-Two.is; place = is.place; not_taken = is.not_taken }) (λ k is. record { place = is.place; not_taken = is.not_taken })
+    (λ k is. record { format = two-or_three c.args.layout.now.format c.in-Two.is; place = is.place; not_taken = is.not_taken }) (λ k is. record { place = is.place; not_taken = is.not_taken })
     c.clear_both_tails.ensures.step
 
 pub returns-in-Two-clause-calls : goal.returns-in-Two-clause-calls

@@ -11,7 +11,7 @@ use Rattle.redo_disk.specs.declared.error.DevError.{DevError}
 use Rattle.redo_open.specs.Mark.{next_text}
 use Rattle.redo_open.specs.Put.{PutStep}
 use Rattle.redo_open.proofs.Lengths.{checkpoint-within}
-use Rattle.redo_open.proofs.Marks.{mark-fails, mark-one, mark-other}
+use Rattle.redo_open.proofs.Marks.{mark-fails, mark-one, mark-other, two-or_three}
 use Rattle.redo_open.proofs.Puts.{put_served, puts_then}
 use Rattle.redo_open.proofs.mark.mark.Goals as goal
 
@@ -50,7 +50,7 @@ pub returns-in-Two-clause-step : goal.returns-in-Two-clause-step
 returns-in-Two-clause-step g c =
     let old = g.L.Sectors.seen c.args.log.now in
     let new = g.L.Sectors.seen c.put_checkpoint.new.log in
-    mark-other c.args.format c.args.shape.now c.args.number c.args.lsn old tt new c.in-Two.is
+    mark-other c.args.format c.args.shape.now c.args.number c.args.lsn old tt new (two-or_three c.args.format c.in-Two.is)
     (there c.args.format c.args.shape.now c.layout_of.result c.args.number c.args.lsn old _ new c.layout_of.ensures.is c.in_ok-put_checkpoint.ensures.step)
 
 pub returns-in-Two-clause-calls : goal.returns-in-Two-clause-calls
