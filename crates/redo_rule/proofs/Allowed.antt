@@ -10,6 +10,7 @@ use Rattle.atomic_table.specs.Table.{Allows, gives, keeps, Me, put_back, rest, S
 use Rattle.model_core.proofs.Lists.{set_again, set_else}
 use Rattle.model_core.specs.{filled, Filling, Fills, flat, flat_page_words, index, lent, next, OnWord, took, word_found, words_after}
 use Rattle.model_core.specs.Actors as model
+use Rattle.model_core.specs.declared.words.Layout.{Layout}
 use Rattle.model_core.specs.declared.ops.Answer.{Answer}
 use Rattle.model_core.specs.declared.ops.Answer.TheVariants as answer
 use Rattle.model_core.specs.declared.ops.Op.{Op}
@@ -80,7 +81,7 @@ module _ {L D : Type 0} (log_seen : L → Seen) (log_gives : L → Call → L �
           refl,
           λ y is. let known = kept.known log_seen log_gives data_seen data_gives about s R id me.0 y is at in
               kept.may_go log_seen data_seen R.run R.parts R.actors R.runs y.number y.actor (kept.here log_seen
-              log_gives data_seen data_gives about s R id me.0 y is at) me.0.pages me.0.held me.0.data_part
+              log_gives data_seen data_gives about s R id me.0 y is at) me.0.layout me.0.held me.0.data_part
               (kept.count log_seen log_gives data_seen data_gives about s R id me.0 y is at)
               (λ desk h mine. kept.same_log desk (desk_with R.parts.log R.beside) (kept.same_slot (slot.Log desk) (slot.Log (desk_with R.parts.log R.beside)) (sym h ∙ kept.holds_content log_seen log_gives data_seen data_gives about s R id me.0 y is at 0
               mine)))
@@ -111,8 +112,8 @@ module _ {L D : Type 0} (log_seen : L → Seen) (log_gives : L → Call → L �
   of_any P p y e = subst P (one_head me.0.seats x y one e) p
 
   on_word : (o : Op) (i : ℕ) (f : ℕ → ℕ) → next a ≡ o → OnWord o → IsNoGive o → ((k : ℕ) → k < 5 → 7 + k ≢ i) → ((ws :
-      List ℕ) → HoldsSum o ws → slice_set ws i (f (slice_index ws i)) ≡ words_after o ws) → ((ws : List ℕ) →
-      word_found o ws ≡ slice_index ws i)
+      List ℕ) → HoldsSum me.0.layout o ws → slice_set ws i (f (slice_index ws i)) ≡ words_after me.0.layout o ws)
+      → ((ws : List ℕ) → word_found me.0.layout o ws ≡ slice_index ws i)
       → Allows Law slots id me i f (saw log_seen data_seen me)
   on_word o i f is on other off words found s R wide at small =
       let fills = fills_none o is other (kept.is_free log_seen log_gives data_seen data_gives about s R id me.0 x one
@@ -120,17 +121,23 @@ module _ {L D : Type 0} (log_seen : L → Seen) (log_gives : L → Call → L �
       let n : ℕ = slice_index s.words i in
       let r : Answer = answer.Old n in
       let ws : List ℕ = slice_set s.words i (f n) in
-      let new : Parts L D = record { words = record { pages = R.parts.words.pages; words = ws }; log = R.parts.log; store = R.parts.store; lists = R.parts.lists } in
+      let new : Parts L D = record { words = record { layout = R.parts.words.layout; words = ws }; log = R.parts.log; store = R.parts.store; lists = R.parts.lists } in
       let e : R.parts.words.words ≡ s.words = R.words_are in
       let known : Knows about R.parts R.beside R.actors R.heard R.seat_of R.keeper R.out id me.0 =
       kept.known log_seen log_gives data_seen data_gives about s R id me.0 x one at in
-      let sum : HoldsSum o s.words = subst (HoldsSum o) e (subst (λ (p : Op). HoldsSum p R.parts.words.words) is
-      (holds_sum (lists_of R.parts.lists) (is_some R.parts.log.failed) 0 0 R.parts.words.words a (kept.fits log_seen log_gives data_seen data_gives about s R id me.0 x one at 0 0).log)) in
+      let layout : Layout = R.parts.words.layout in
+      let layout_is : me.0.layout ≡ layout =
+      kept.count log_seen log_gives data_seen data_gives about s R id me.0 x one at in
+      let sum : HoldsSum me.0.layout o s.words = subst (λ (l : Layout). HoldsSum l o s.words) (sym layout_is)
+      (subst (HoldsSum layout o) e (subst (λ (p : Op). HoldsSum layout p R.parts.words.words) is
+      (holds_sum layout (lists_of R.parts.lists) (is_some R.parts.log.failed) 0 0 R.parts.words.words a (kept.fits log_seen log_gives data_seen data_gives about s R id me.0 x one at 0 0).log))) in
       let same : HasSamePages R.parts new = record { words = refl; lists = refl } in
       let done : IsPlayed log_seen data_seen R.run (next a) (lent plain) R.parts r new = subst (λ (p : Op). IsPlayed
       log_seen data_seen R.run p (lent plain) R.parts r new) (sym is)
-      (played.word_played log_seen data_seen R.run (lent plain) R.parts o new.words r on (words s.words sum ∙ ap
-      (words_after o) (sym e)) (ap answer.Old (sym (found s.words) ∙ ap (word_found o) (sym e)))) in
+      (played.word_played log_seen data_seen R.run (lent plain) R.parts o new.words r on refl
+      (words s.words sum ∙ ap (λ (l : Layout). words_after l o s.words) layout_is ∙ ap (words_after layout o) (sym e))
+      (ap answer.Old (sym (found s.words) ∙ ap (λ (l : Layout). word_found l o s.words) layout_is
+      ∙ ap (word_found layout o) (sym e)))) in
       let goes : Handles o (hand a) (λ (z : Answer). hand (took plain z)) = subst (λ (p : Op). Handles p (hand a) (λ
       (z : Answer). hand (took plain z))) is (handles_filled a no_filling (kept.is_free log_seen log_gives
       data_seen data_gives about s R id me.0 x one at)) in
@@ -163,22 +170,22 @@ module _ {L D : Type 0} (log_seen : L → Seen) (log_gives : L → Call → L �
             R.beside same done plain_one me.1 me.0.held me.0.data_part me.1 own (λ d h. (known.data_part d h).1)),
       )
 
-  pub allows_load : (w : Word) → next a ≡ op.Load w → Allows Law slots id me (index w) (λ n. n) (saw log_seen data_seen me)
-  allows_load w is = on_word (op.Load w) (index w) (λ n. n) is tt tt (plain_off w (subst IsOffTurns is (next_off a)))
-      (λ ws _. set-get_or ws (index w) 0) (λ ws. refl)
+  pub allows_load : (w : Word) → next a ≡ op.Load w → Allows Law slots id me (index me.0.layout w) (λ n. n) (saw log_seen data_seen me)
+  allows_load w is = on_word (op.Load w) (index me.0.layout w) (λ n. n) is tt tt (plain_off me.0.layout w (subst IsOffTurns is (next_off a)))
+      (λ ws _. set-get_or ws (index me.0.layout w) 0) (λ ws. refl)
 
-  pub allows_store : (w : Word) (y : ℕ) → next a ≡ op.Store w y → Allows Law slots id me (index w) (λ _. y) (saw log_seen data_seen me)
-  allows_store w y is = on_word (op.Store w y) (index w) (λ _. y) is tt tt (plain_off w (subst IsOffTurns is (next_off
+  pub allows_store : (w : Word) (y : ℕ) → next a ≡ op.Store w y → Allows Law slots id me (index me.0.layout w) (λ _. y) (saw log_seen data_seen me)
+  allows_store w y is = on_word (op.Store w y) (index me.0.layout w) (λ _. y) is tt tt (plain_off me.0.layout w (subst IsOffTurns is (next_off
       a))) (λ ws _. refl) (λ ws. refl)
 
-  pub allows_add : (w : Word) (y : ℕ) → next a ≡ op.Add w y → Allows Law slots id me (index w) (λ n. (n + y) % 2 ^ 64) (saw log_seen data_seen me)
-  allows_add w y is = on_word (op.Add w y) (index w) (λ n. (n + y) % 2 ^ 64) is tt tt (plain_off w (subst IsOffTurns
+  pub allows_add : (w : Word) (y : ℕ) → next a ≡ op.Add w y → Allows Law slots id me (index me.0.layout w) (λ n. (n + y) % 2 ^ 64) (saw log_seen data_seen me)
+  allows_add w y is = on_word (op.Add w y) (index me.0.layout w) (λ n. (n + y) % 2 ^ 64) is tt tt (plain_off me.0.layout w (subst IsOffTurns
       is (next_off a)))
-      (λ ws sum. ap (slice_set ws (index w)) (let e : (slice_index ws (index w) + y) % 2 ^ 64 ≡ slice_index ws (index w) + y = omega arith in e)) (λ ws. refl)
+      (λ ws sum. ap (slice_set ws (index me.0.layout w)) (let e : (slice_index ws (index me.0.layout w) + y) % 2 ^ 64 ≡ slice_index ws (index me.0.layout w) + y = omega arith in e)) (λ ws. refl)
 
-  pub allows_swap : (w : Word) (y z : ℕ) → next a ≡ op.Swap w y z → Allows Law slots id me (index w) (λ n. either (eqb n y) z n) (saw log_seen data_seen me)
-  allows_swap w y z is = on_word (op.Swap w y z) (index w) (λ n. either (eqb n y) z n) is tt tt (plain_off w (subst
-      IsOffTurns is (next_off a))) (λ ws _. swapped ws (index w) y z) (λ ws. refl)
+  pub allows_swap : (w : Word) (y z : ℕ) → next a ≡ op.Swap w y z → Allows Law slots id me (index me.0.layout w) (λ n. either (eqb n y) z n) (saw log_seen data_seen me)
+  allows_swap w y z is = on_word (op.Swap w y z) (index me.0.layout w) (λ n. either (eqb n y) z n) is tt tt (plain_off me.0.layout w (subst
+      IsOffTurns is (next_off a))) (λ ws _. swapped ws (index me.0.layout w) y z) (λ ws. refl)
 
   -- there are words enough
   many : (s : State (Slot L D) (View L D)) (R : Law s) (k : ℕ) → k < 5 → 7 + k < length s.words
@@ -198,7 +205,7 @@ module _ {L D : Type 0} (log_seen : L → Seen) (log_gives : L → Call → L �
   finds_held : (o : Op) (k : ℕ) → next a ≡ o → IsNoGive o → k < 5 → (hand a ≡ None) → hand (took plain answer.Held) ≡
       None
       → ((s : State (Slot L D) (View L D)) (R : Law s) (new : Parts L D) → slice_index s.words (7 + k) ≢ 0 →
-      new.words.words ≡ R.parts.words.words → new.log ≡ R.parts.log → new.store ≡ R.parts.store → new.lists ≡
+      new.words.layout ≡ R.parts.words.layout → new.words.words ≡ R.parts.words.words → new.log ≡ R.parts.log → new.store ≡ R.parts.store → new.lists ≡
       R.parts.lists → IsPlayed log_seen data_seen R.run o (lent plain) R.parts answer.Held new)
       → (s : State (Slot L D) (View L D)) (R : Law s) → get_elem? s.views id ≡ maybe.some me.0 → slice_index s.words (7 + k) ≢ 0
       → (ws : List ℕ) → ws ≡ s.words
@@ -212,12 +219,12 @@ module _ {L D : Type 0} (log_seen : L → Seen) (log_gives : L → Call → L �
   finds_held o k is other below free held plays s R at busy ws e =
       let fills = fills_none o is other (kept.is_free log_seen log_gives data_seen data_gives about s R id me.0 x one
       at) in
-      let new : Parts L D = record { words = record { pages = R.parts.words.pages; words = ws }; log = R.parts.log; store = R.parts.store; lists = R.parts.lists } in
+      let new : Parts L D = record { words = record { layout = R.parts.words.layout; words = ws }; log = R.parts.log; store = R.parts.store; lists = R.parts.lists } in
       let known : Knows about R.parts R.beside R.actors R.heard R.seat_of R.keeper R.out id me.0 =
       kept.known log_seen log_gives data_seen data_gives about s R id me.0 x one at in
       let same : HasSamePages R.parts new = record { words = refl; lists = refl } in
       let done : IsPlayed log_seen data_seen R.run (next a) (lent plain) R.parts answer.Held new = subst (λ (p : Op).
-      IsPlayed log_seen data_seen R.run p (lent plain) R.parts answer.Held new) (sym is) (plays s R new busy (e ∙
+      IsPlayed log_seen data_seen R.run p (lent plain) R.parts answer.Held new) (sym is) (plays s R new busy refl (e ∙
       sym R.words_are) refl refl refl) in
       let own : (j : ℕ) → hand (took plain answer.Held) ≡ Some j → me.0.held ≡ Some (slot_content new R.beside j) = λ j
       h. absurd (cc) in (
@@ -239,7 +246,7 @@ module _ {L D : Type 0} (log_seen : L → Seen) (log_gives : L → Call → L �
   finds_free : (o : Op) (k : ℕ) (r : Answer) → next a ≡ o → IsNoGive o → k < 5 → hand a ≡ None → hand (took plain r) ≡
       Some k → ((j : ℕ) → hand (took plain r) ≡ Some j → j ≡ k)
       → (s : State (Slot L D) (View L D)) (R : Law s) (new : Parts L D) → get_elem? s.views id ≡ maybe.some me.0 → slice_index s.words (7 + k) ≡ 0
-      → new.words.words ≡ slice_set s.words (7 + k) 1 → new.words.pages ≡ R.parts.words.pages → new.lists.pages ≡ R.parts.lists.pages → new.log ≡ R.parts.log → new.store ≡ R.parts.store → AreLists new.lists
+      → new.words.words ≡ slice_set s.words (7 + k) 1 → new.words.layout ≡ R.parts.words.layout → new.lists.pages ≡ R.parts.lists.pages → new.log ≡ R.parts.log → new.store ≡ R.parts.store → AreLists new.lists
       → ((j : ℕ) → j ≢ k → ◌≡◌ {A = Slot L D} (slot_content R.parts R.beside j) (slot_content new R.beside j))
       → IsPlayed log_seen data_seen R.run o (lent plain) R.parts r new
       → Law (record {
@@ -303,7 +310,7 @@ module _ {L D : Type 0} (log_seen : L → Seen) (log_gives : L → Call → L �
   pub record Goes (s : State (Slot L D) (View L D)) (R : Law s) (o : Op) (i : ℕ) (ws : List ℕ) : Type 0 where
     pub new : Parts L D
     pub words : new.words.words ≡ ws
-    pub count : new.words.pages ≡ R.parts.words.pages
+    pub count : new.words.layout ≡ R.parts.words.layout
     pub list_count : new.lists.pages ≡ R.parts.lists.pages
     pub log_same : new.log ≡ R.parts.log
     pub store_same : new.store ≡ R.parts.store
@@ -320,7 +327,7 @@ module _ {L D : Type 0} (log_seen : L → Seen) (log_gives : L → Call → L �
     | yes free ↦ (
         let r : Answer = taking (is_some R.parts.log.failed) in
         let ws : List ℕ = slice_set s.words 7 (either (eqb (slice_index s.words 7) 0) 1 (slice_index s.words 7)) in
-        let new : Parts L D = record { words = record { pages = R.parts.words.pages; words = ws }; log = R.parts.log; store = R.parts.store; lists = R.parts.lists } in
+        let new : Parts L D = record { words = record { layout = R.parts.words.layout; words = ws }; log = R.parts.log; store = R.parts.store; lists = R.parts.lists } in
         let words : ws ≡ slice_set s.words 7 1 = swapped s.words 7 0 1 ∙ ap (λ (b : Bool). cond b (slice_set s.words 7 1) s.words) (eq-eqb (slice_index s.words 7) 0 free) in
         let goes : Handles op.TakeDevice (hand a) (λ (z : Answer). hand (took plain z)) = subst (λ (p : Op). Handles p
         (hand a) (λ (z : Answer). hand (took plain z))) is (handles_filled a no_filling (kept.is_free log_seen
@@ -328,7 +335,7 @@ module _ {L D : Type 0} (log_seen : L → Seen) (log_gives : L → Call → L �
         let plays = played.took_device log_seen data_seen R.run (lent plain) R.parts new r (record {
           log = refl;
           data_part = refl;
-        }) op.TakeDevice refl
+        }) refl op.TakeDevice refl
         (swapped s.words 7 0 1 ∙ ap (λ (y : List ℕ). cond (slice_index y 7 == 0) (slice_set y 7 1) y) (sym R.words_are)) refl
         (λ code mark. sym (ap (λ (b : Bool). cond b (taking (is_some R.parts.log.failed)) answer.Held) (eq-eqb (slice_index R.parts.words.words 7) 0 (ap (λ (y : List ℕ). slice_index y 7) R.words_are ∙ free)))) in
         let k = finds_free op.TakeDevice 0 r is tt (omega arith) goes.0 (took_hand (is_some R.parts.log.failed) (λ (z
@@ -384,34 +391,34 @@ module _ {L D : Type 0} (log_seen : L → Seen) (log_gives : L → Call → L �
       took_hand false f t b = t None
 
       held_plays : (s : State (Slot L D) (View L D)) (R : Law s) (new : Parts L D) → slice_index s.words 7 ≢ 0 →
-          new.words.words ≡ R.parts.words.words → new.log ≡ R.parts.log → new.store ≡ R.parts.store → new.lists ≡
+          new.words.layout ≡ R.parts.words.layout → new.words.words ≡ R.parts.words.words → new.log ≡ R.parts.log → new.store ≡ R.parts.store → new.lists ≡
           R.parts.lists → IsPlayed log_seen data_seen R.run op.TakeDevice (lent plain) R.parts answer.Held new
-      held_plays s R new busy words log_same store_same lists_same =
+      held_plays s R new busy layout words log_same store_same lists_same =
           let w : cond (slice_index R.parts.words.words 7 == 0) (slice_set R.parts.words.words 7 1) R.parts.words.words ≡ R.parts.words.words = ap (λ (b : Bool). cond b (slice_set R.parts.words.words 7 1) R.parts.words.words) (ne_eqb (slice_index R.parts.words.words 7) 0 (λ z. busy (sym (ap (λ (y : List ℕ). slice_index y 7) R.words_are) ∙ z))) in
           played.took_device log_seen data_seen R.run (lent plain) R.parts new answer.Held (record {
             log = log_same;
             data_part = store_same;
-          }) op.TakeDevice refl (words ∙ sym w) lists_same
+          }) layout op.TakeDevice refl (words ∙ sym w) lists_same
           (λ code mark. sym (ap (λ (b : Bool). cond b (taking (is_some R.parts.log.failed)) answer.Held) (ne_eqb (slice_index R.parts.words.words 7) 0 (λ z. busy (sym (ap (λ (y : List ℕ). slice_index y 7) R.words_are) ∙ z)))))
 
   -- a turn word and its slot are given back
   gives_back : (o : Op) (k : ℕ) (own_slot : Slot L D) (f : Filling) → Fills a f → KeepsTexts a f → next a ≡ o → IsNoRead o → k < 5 →
       hand a ≡ Some k → ((g : Filling) → hand (took (filled a g) (answer.Taken None)) ≡ None) → me.0.held ≡ Some
       own_slot → me.1 ≡ (k, own_slot) ∷ []
-      → ((s : State (Slot L D) (View L D)) (R : Law s) (new : Parts L D) → new.words.words ≡ slice_set
-      R.parts.words.words (7 + k) 0 → new.log ≡ R.parts.log → new.store ≡ R.parts.store → new.lists ≡
+      → ((s : State (Slot L D) (View L D)) (R : Law s) (new : Parts L D) → new.words.layout ≡ R.parts.words.layout
+      → new.words.words ≡ slice_set R.parts.words.words (7 + k) 0 → new.log ≡ R.parts.log → new.store ≡ R.parts.store → new.lists ≡
       R.parts.lists → (l : model.Lent) → IsPlayed log_seen data_seen R.run o l R.parts (answer.Taken None) new)
       → Allows Law slots id me (7 + k) (λ _. 0) (gave log_seen data_seen me)
   gives_back o k own_slot f fills keeps_f is other below held_k none held carried plays s R wide at small =
       let r : Answer = answer.Taken None in
       let ws : List ℕ = slice_set s.words (7 + k) 0 in
-      let new : Parts L D = record { words = record { pages = R.parts.words.pages; words = ws }; log = R.parts.log; store = R.parts.store; lists = R.parts.lists } in
+      let new : Parts L D = record { words = record { layout = R.parts.words.layout; words = ws }; log = R.parts.log; store = R.parts.store; lists = R.parts.lists } in
       let known : Knows about R.parts R.beside R.actors R.heard R.seat_of R.keeper R.out id me.0 =
       kept.known log_seen log_gives data_seen data_gives about s R id me.0 x one at in
       let same : HasSamePages R.parts new = record { words = refl; lists = refl } in
       let done : (g : Filling) → IsPlayed log_seen data_seen R.run (next a) (lent (filled a g)) R.parts r new = λ g.
       subst (λ (p : Op). IsPlayed log_seen data_seen R.run p (lent (filled a g)) R.parts r new) (sym is) (plays s
-      R new (ap (λ (y : List ℕ). slice_set y (7 + k) 0) (sym R.words_are)) refl refl refl (lent (filled a g))) in
+      R new refl (ap (λ (y : List ℕ). slice_set y (7 + k) 0) (sym R.words_are)) refl refl refl (lent (filled a g))) in
       let own : (g : Filling) (j : ℕ) → hand (took (filled a g) r) ≡ Some j → None ≡ Some (slot_content new R.beside j)
       = λ g j h. let n = none g in absurd (cc) in
       let free = kept.is_free log_seen log_gives data_seen data_gives about s R id me.0 x one at in
@@ -459,7 +466,7 @@ module _ {L D : Type 0} (log_seen : L → Seen) (log_gives : L → Call → L �
       left z = (
         record {
           about = me.0.about;
-          pages = me.0.pages;
+          layout = me.0.layout;
           seats = (record {
             number = x.number;
             actor = took z (answer.Taken None);
@@ -480,10 +487,11 @@ module _ {L D : Type 0} (log_seen : L → Seen) (log_gives : L → Call → L �
       subst (λ (p : Op). Handles p (hand a) (λ (z : Answer). hand (took (filled a g) z))) is (handles_filled a g
       free) in
       gives_back op.GiveDevice 0 own_slot f fills keeps_f is tt (omega arith) (goes f).0 (λ g. (goes g).1) held carried
-      (λ s R new words log_same store_same lists_same l. record {
+      (λ s R new layout words log_same store_same lists_same l. record {
         code = 0;
         log_served = log_same;
         own_served = tt;
+        layout = layout;
         data_served =
             played.untouched (run_data_side log_seen data_seen R.run) R.parts.store new.store l op.GiveDevice 0 tt
             store_same;
@@ -502,10 +510,11 @@ module _ {L D : Type 0} (log_seen : L → Seen) (log_gives : L → Call → L �
       (gives_back (op.GiveList i) (suc i) own_slot no_filling (fills_none (op.GiveList i) is tt free) (keeps_listed a
       no_filling i is) is tt (omega
       arith) (goes no_filling).0 (λ g. (goes g).1) held carried
-      (λ s R new words log_same store_same lists_same l. record {
+      (λ s R new layout words log_same store_same lists_same l. record {
         code = 0;
         log_served = log_same;
         own_served = tt;
+        layout = layout;
         data_served = played.untouched (run_data_side log_seen data_seen R.run) R.parts.store new.store l (op.GiveList
             i) 0 tt store_same;
         words = words ∙ ap (λ (n : ℕ). slice_set R.parts.words.words n 0) word;
@@ -517,7 +526,7 @@ module _ {L D : Type 0} (log_seen : L → Seen) (log_gives : L → Call → L �
   pub takes_list : (o : Op) (i : ℕ) → next a ≡ o → IsNoGive o → TakesList o (suc i) → i < 4 → (hand a ≡ None) × ((n :
       Option ℕ) → hand (took plain (answer.Taken n)) ≡ Some (suc i)) × (hand (took plain answer.Held) ≡ None)
       → ((s : State (Slot L D) (View L D)) (R : Law s) (new : Parts L D) → slice_index s.words (7 + suc i) ≢ 0 →
-      new.words.words ≡ R.parts.words.words → new.log ≡ R.parts.log → new.store ≡ R.parts.store → new.lists ≡
+      new.words.layout ≡ R.parts.words.layout → new.words.words ≡ R.parts.words.words → new.log ≡ R.parts.log → new.store ≡ R.parts.store → new.lists ≡
       R.parts.lists → IsPlayed log_seen data_seen R.run o (lent plain) R.parts answer.Held new)
       → ((s : State (Slot L D) (View L D)) (R : Law s) (ws : List ℕ) → ws ≡ cond (slice_index R.parts.words.words (8 +
       i) == 0) (slice_set R.parts.words.words (8 + i) 1) R.parts.words.words → slice_index R.parts.words.words (8

@@ -41,7 +41,7 @@ module _ {L D : Type 0} (log_seen : L → Seen) (data_seen : D → Seen) (run : 
     (ws : List ℕ) (words : ws ≡ old.words.words) (x : ℕ) where
   abbrev new : Parts L D
   new = record {
-    words = record { pages = old.words.pages; words = ws };
+    words = record { layout = old.words.layout; words = ws };
     log = old.log;
     store = old.store;
     lists = old.lists;
@@ -53,6 +53,7 @@ module _ {L D : Type 0} (log_seen : L → Seen) (data_seen : D → Seen) (run : 
     log_served = refl;
     data_served = untouched (run_data_side log_seen data_seen run) old.store old.store l (op.Append x) 0 tt refl;
     own_served = inl refl;
+    layout = refl;
     words = words;
     lists = refl;
     answered = refl;
@@ -63,6 +64,7 @@ module _ {L D : Type 0} (log_seen : L → Seen) (data_seen : D → Seen) (run : 
     data_served = untouched (run_data_side log_seen data_seen run) old.store old.store l (op.Append x)
         (append_code (Some Failed)) tt refl;
     own_served = inr (inl refl);
+    layout = refl;
     words = words;
     lists = refl;
     answered = refl;
@@ -73,6 +75,7 @@ module _ {L D : Type 0} (log_seen : L → Seen) (data_seen : D → Seen) (run : 
     data_served = untouched (run_data_side log_seen data_seen run) old.store old.store l (op.Append x)
         (append_code (Some NoMemory)) tt refl;
     own_served = inr (inr refl);
+    layout = refl;
     words = words;
     lists = refl;
     answered = refl;
@@ -97,7 +100,7 @@ module _ {L D : Type 0} (log_seen : L → Seen) (log_gives : L → Call → L �
       let ws : List ℕ = slice_set s.words i (slice_index s.words i) in
       let e : ws ≡ s.words = set-get_or s.words i 0 in
       let new : Parts L D = record {
-        words = record { pages = R.parts.words.pages; words = ws };
+        words = record { layout = R.parts.words.layout; words = ws };
         log = R.parts.log;
         store = R.parts.store;
         lists = R.parts.lists;

@@ -112,7 +112,7 @@ module _ {L D : Type 0} (log_seen : L → Seen) (log_gives : L → Call → L �
       let e : slice_set s.words i (slice_index s.words i) ≡ s.words = set-get_or s.words i 0 in
       let new : Parts L D = record {
         words = record {
-          pages = R.parts.words.pages;
+          layout = R.parts.words.layout;
           words = slice_set s.words i
               (slice_index s.words i);
         };
@@ -123,7 +123,7 @@ module _ {L D : Type 0} (log_seen : L → Seen) (log_gives : L → Call → L �
       let r : Answer = call_answer Log q.part.failed (told_by o q.part.marks.stable) in
       let same : HasSamePages R.parts new = record { words = refl; lists = refl } in
       let done_o : IsPlayed log_seen data_seen R.run o (lent b) R.parts r new = played.log_played log_seen data_seen
-      R.run (lent b) R.parts o new r (e ∙ sym R.words_are) refl o refl calls_log refl (subst (λ (z : log.Part L).
+      R.run (lent b) R.parts o new r refl (e ∙ sym R.words_are) refl o refl calls_log refl (subst (λ (z : log.Part L).
       LogServed (run_log_side log_seen data_seen R.run) z (lent b) o (call_code Log q.part.failed) q.part) was
       (served R.run)) refl in
       let done : IsPlayed log_seen data_seen R.run (next a) (lent b) R.parts r new = subst (λ (j : Op). IsPlayed
@@ -216,7 +216,7 @@ module _ {L D : Type 0} (log_seen : L → Seen) (log_gives : L → Call → L �
       (ap (λ (o : Option (Keeping D)). part_or d o) h, ap (λ (o : Option (Keeping D)). is_out o) h) in
       let here : Knows about R.parts R.beside R.actors R.heard R.seat_of R.keeper true id w = record {
         told = K.told;
-        pages = K.pages;
+        layout = K.layout;
         mine = K.mine;
         free = K.free;
         held = K.held;
@@ -228,7 +228,7 @@ module _ {L D : Type 0} (log_seen : L → Seen) (log_gives : L → Call → L �
       → Knows about R.parts R.beside R.actors R.heard R.seat_of R.keeper true j u = λ j u ne h. let N = R.knows j u h
       in record {
         told = N.told;
-        pages = N.pages;
+        layout = N.layout;
         mine = N.mine;
         free = N.free;
         held = N.held;
@@ -291,12 +291,12 @@ module _ {L D : Type 0} (log_seen : L → Seen) (log_gives : L → Call → L �
       let mine = known.data_part (record { part = d; out = true }) has in
       let was : ◌≡◌ {A = store.Part D} d R.parts.store = mine.1 in
       let q : slice_set s.words i (slice_index s.words i) ≡ s.words = set-get_or s.words i 0 in
-      let new : Parts L D = record { words = record { pages = R.parts.words.pages; words = slice_set s.words i (slice_index s.words i) }; log = R.parts.log; store = e; lists = R.parts.lists } in
+      let new : Parts L D = record { words = record { layout = R.parts.words.layout; words = slice_set s.words i (slice_index s.words i) }; log = R.parts.log; store = e; lists = R.parts.lists } in
       let r : Answer = call_answer Data e.failed 0 in
       let same : HasSamePages R.parts new = record { words = refl; lists = refl } in
       let done : IsPlayed log_seen data_seen R.run (next a) (lent plain) R.parts r new = subst (λ (j : Op). IsPlayed
       log_seen data_seen R.run j (lent plain) R.parts r new) (sym is)
-      (played.batch_played log_seen data_seen R.run (lent plain) R.parts op.WriteBatch new r (q ∙ sym R.words_are)
+      (played.batch_played log_seen data_seen R.run (lent plain) R.parts op.WriteBatch new r refl (q ∙ sym R.words_are)
       refl refl refl (subst (λ (z : store.Part D). DataServed (run_data_side log_seen data_seen R.run) z (lent
       plain) op.WriteBatch (call_code Data e.failed) e) was (served R.run)) refl) in
       let kept_now : Option (Keeping D) = Some (record { part = e; out = false }) in

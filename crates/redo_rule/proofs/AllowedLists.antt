@@ -115,19 +115,19 @@ module _ {L D : Type 0} (log_seen : L → Seen) (log_gives : L → Call → L �
       weaker (8 + p % 4) (λ n. either (eqb n 0) 1 n) (Told (op.TakeAdd p y) (p % 4)) (seized_list log_seen data_seen me) (tells (op.TakeAdd p y) (p % 4) is (λ k e. e))
       (allowed.takes_list log_seen log_gives data_seen data_gives about slots id me x one plain_one (op.TakeAdd p y) (p % 4) is
       tt refl (omega arith) goes
-      (λ s R new busy words log_same store_same lists_same. let word : 7 + suc (p % 4) ≡ 8 + p % 4 = omega arith in
+      (λ s R new busy layout words log_same store_same lists_same. let word : 7 + suc (p % 4) ≡ 8 + p % 4 = omega arith in
       let busy_p : slice_index R.parts.words.words (8 + p % 4) ≢ 0 = λ z. busy (ap (slice_index s.words) word ∙ sym (ap (λ (w : List ℕ). slice_index w (8 + p % 4)) R.words_are) ∙ z) in
       let f = ne_eqb (slice_index R.parts.words.words (8 + p % 4)) 0 busy_p in
       played.took_add log_seen data_seen R.run (lent plain) R.parts new answer.Held (record {
         log = log_same;
         data_part = store_same;
-      }) (op.TakeAdd p y) p y refl
+      }) layout (op.TakeAdd p y) p y refl
       (words ∙ sym (ap (λ (b : Bool). cond b (slice_set R.parts.words.words (8 + p % 4) 1) R.parts.words.words) f))
       (add_left R.parts.lists new.lists (list_word R.parts.words.words) p y R.lists_are (lists_same ∙ sym (ap (λ (b : Bool). cond b (added R.parts.lists p y) R.parts.lists) f))) (sym (ap (λ (b : Bool). cond b (answer.Taken None) answer.Held) f)))
       (λ s R ws words free_word there.
       let f = eq-eqb (slice_index R.parts.words.words (8 + p % 4)) 0 free_word in
       let entries : List Dirty = (listing_at R.parts.lists.lists (p % 4)).entries ++ (record { page = p; oldest = y }) ∷ [] in
-      let new : Parts L D = record { words = record { pages = R.parts.words.pages; words = ws }; log = R.parts.log; store = R.parts.store; lists = added R.parts.lists p y } in
+      let new : Parts L D = record { words = record { layout = R.parts.words.layout; words = ws }; log = R.parts.log; store = R.parts.store; lists = added R.parts.lists p y } in
       let may : ListReady R.run.setup.pages (lists_of R.parts.lists) (op.TakeAdd p y) = subst (ListReady R.run.setup.pages (lists_of R.parts.lists)) is (ready s R there) in
       record {
         new = new;
@@ -144,7 +144,7 @@ module _ {L D : Type 0} (log_seen : L → Seen) (log_gives : L → Call → L �
           log =
               refl;
           data_part = refl;
-        }) (op.TakeAdd p y) p y refl words
+        }) refl (op.TakeAdd p y) p y refl words
             (add_left R.parts.lists new.lists (list_word R.parts.words.words) p y R.lists_are (sym (ap (λ (b : Bool). cond b (added R.parts.lists p y) R.parts.lists) f))) (sym (ap (λ (b : Bool). cond b (answer.Taken None) answer.Held) f));
       }))
 
@@ -156,19 +156,19 @@ module _ {L D : Type 0} (log_seen : L → Seen) (log_gives : L → Call → L �
       weaker (8 + p % 4) (λ n. either (eqb n 0) 1 n) (Told (op.TakeRemove p) (p % 4)) (seized_list log_seen data_seen me) (tells (op.TakeRemove p) (p % 4) is (λ k e. e))
       (allowed.takes_list log_seen log_gives data_seen data_gives about slots id me x one plain_one (op.TakeRemove p) (p % 4) is
       tt refl (omega arith) goes
-      (λ s R new busy words log_same store_same lists_same. let word : 7 + suc (p % 4) ≡ 8 + p % 4 = omega arith in
+      (λ s R new busy layout words log_same store_same lists_same. let word : 7 + suc (p % 4) ≡ 8 + p % 4 = omega arith in
       let busy_p : slice_index R.parts.words.words (8 + p % 4) ≢ 0 = λ z. busy (ap (slice_index s.words) word ∙ sym (ap (λ (w : List ℕ). slice_index w (8 + p % 4)) R.words_are) ∙ z) in
       let f = ne_eqb (slice_index R.parts.words.words (8 + p % 4)) 0 busy_p in
       played.took_remove log_seen data_seen R.run (lent plain) R.parts new answer.Held (record {
         log = log_same;
         data_part = store_same;
-      }) (op.TakeRemove p) p refl
+      }) layout (op.TakeRemove p) p refl
       (words ∙ sym (ap (λ (b : Bool). cond b (slice_set R.parts.words.words (8 + p % 4) 1) R.parts.words.words) f))
       (remove_left R.parts.lists new.lists (list_word R.parts.words.words) p R.lists_are (lists_same ∙ sym (ap (λ (b : Bool). cond b (removed R.parts.lists p) R.parts.lists) f))) (sym (ap (λ (b : Bool). cond b (answer.Taken None) answer.Held) f)))
       (λ s R ws words free_word there.
       let f = eq-eqb (slice_index R.parts.words.words (8 + p % 4)) 0 free_word in
       let entries : List Dirty = without_page p (listing_at R.parts.lists.lists (p % 4)).entries in
-      let new : Parts L D = record { words = record { pages = R.parts.words.pages; words = ws }; log = R.parts.log; store = R.parts.store; lists = removed R.parts.lists p } in
+      let new : Parts L D = record { words = record { layout = R.parts.words.layout; words = ws }; log = R.parts.log; store = R.parts.store; lists = removed R.parts.lists p } in
       let may : ListReady R.run.setup.pages (lists_of R.parts.lists) (op.TakeRemove p) = subst (ListReady R.run.setup.pages (lists_of R.parts.lists)) is (ready s R there) in
       record {
         new = new;
@@ -185,7 +185,7 @@ module _ {L D : Type 0} (log_seen : L → Seen) (log_gives : L → Call → L �
           log
               = refl;
           data_part = refl;
-        }) (op.TakeRemove p) p refl words
+        }) refl (op.TakeRemove p) p refl words
             (remove_left R.parts.lists new.lists (list_word R.parts.words.words) p R.lists_are (sym (ap (λ (b : Bool). cond b (removed R.parts.lists p) R.parts.lists) f))) (sym (ap (λ (b : Bool). cond b (answer.Taken None) answer.Held) f));
       }))
 
@@ -197,7 +197,7 @@ module _ {L D : Type 0} (log_seen : L → Seen) (log_gives : L → Call → L �
       weaker (8 + i) (λ n. either (eqb n 0) 1 n) (Told (op.TakeOldest i) i) (seized_list log_seen data_seen me) (tells (op.TakeOldest i) i is (λ k e. e))
       (allowed.takes_list log_seen log_gives data_seen data_gives about slots id me x one plain_one (op.TakeOldest i) i is tt
       refl below goes
-      (λ s R new busy words log_same store_same lists_same. let word : 7 + suc i ≡ 8 + i = omega arith in
+      (λ s R new busy layout words log_same store_same lists_same. let word : 7 + suc i ≡ 8 + i = omega arith in
       let busy_p : slice_index R.parts.words.words (8 + i) ≢ 0 = λ z. busy (ap (slice_index s.words) word ∙ sym (ap (λ (w : List ℕ). slice_index w (8 + i)) R.words_are) ∙ z) in
       let f = ne_eqb (slice_index R.parts.words.words (8 + i)) 0 busy_p in
       record {
@@ -206,13 +206,14 @@ module _ {L D : Type 0} (log_seen : L → Seen) (log_gives : L → Call → L �
         own_served = tt;
         data_served = played.untouched (run_data_side log_seen data_seen R.run) R.parts.store new.store (lent plain)
             (op.TakeOldest i) 0 tt store_same;
+        layout = layout;
         words = words ∙ sym (ap (λ (b : Bool). cond b (slice_set R.parts.words.words (8 + i) 1) R.parts.words.words) f);
         lists = ap lists_of lists_same;
         answered = sym (ap (λ (b : Bool). cond b (answer.Taken (oldest_end (lists_of R.parts.lists i))) answer.Held) f);
       })
       (λ s R ws words free_word there.
       let f = eq-eqb (slice_index R.parts.words.words (8 + i)) 0 free_word in
-      let new : Parts L D = record { words = record { pages = R.parts.words.pages; words = ws }; log = R.parts.log; store = R.parts.store; lists = R.parts.lists } in
+      let new : Parts L D = record { words = record { layout = R.parts.words.layout; words = ws }; log = R.parts.log; store = R.parts.store; lists = R.parts.lists } in
       record {
         new = new;
         words = refl;
@@ -230,6 +231,7 @@ module _ {L D : Type 0} (log_seen : L → Seen) (log_gives : L → Call → L �
           own_served = tt;
           data_served = played.untouched (run_data_side log_seen data_seen R.run) R.parts.store R.parts.store (lent
               plain) (op.TakeOldest i) 0 tt refl;
+          layout = refl;
           words = words;
           lists = refl;
           answered = sym (ap (λ (b : Bool). cond b (answer.Taken (oldest_end (lists_of R.parts.lists i))) answer.Held) f);

@@ -188,12 +188,12 @@ module _ {L D R : Type 0} {table : TableId} {seat : Seat (Slot L D) (View L D)} 
                 let g = stepping.goes was.mine op.WriteBatch is no_filling in
                 let one : out.me.0.seats ≡ was.mine.who ∷ [] = ap (λ (w : Me (Slot L D) (View L D)). w.0.seats) out_is ∙
                 was.mine.one in
-                let pages : out.me.0.pages ≡ seat.me.0.pages = ap (λ (w : Me (Slot L D) (View L D)). w.0.pages) out_is
+                let layout : out.me.0.layout ≡ seat.me.0.layout = ap (λ (w : Me (Slot L D) (View L D)). w.0.layout) out_is
                 in
                 leaves table log_seen data_seen stands out was.mine.who old new step no_filling r out.me.0.held
                 (Some (record { part = e; out = false })) (rest out.me.1)
                 ((5, z) ∷ rest out.me.1) after.me was.mine.slots
-                (was.mine.words ∙ ap word_count (sym pages)) one was.mine.state was.mine.plain stepped
+                (was.mine.words ∙ ap word_count (sym layout)) one was.mine.state was.mine.plain stepped
                 (took_plain stands r step new no_filling old op.WriteBatch is tt was.mine.may.free h) after
                 (back.0 ∙ made.0 ∙ was.mine.of) (ap (λ (w : Me (Slot L D) (View L D)). w.0) stepped.is)
                 (subst (λ (w : Option ℕ). Carries w after.me) (sym (g.1 r))
@@ -217,6 +217,7 @@ module _ {L D R : Type 0} {table : TableId} {seat : Seat (Slot L D) (View L D)} 
                 still l = record {
                   about = l.about;
                   number = l.number;
+                  layout = l.layout;
                   same = l.same;
                   since = l.since;
                   heard = l.heard;

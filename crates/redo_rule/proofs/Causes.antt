@@ -76,7 +76,7 @@ module _ {L D : Type 0} (log_seen : L → Seen) (data_seen : D → Seen) (v : Vi
   found : is_checking a ≡ true → (next a ≡ op.Load word.Failed) × (old_of r ≡ code_in s.old)
   found checks =
       let asks : next a ≡ op.Load word.Failed = ap (λ (b : Bool). cond b (op.Load word.Failed) (own_op a)) checks in
-      (asks, ap old_of (s.turn.answered ∙ ap (answer_of (lists_of s.old.lists) (is_some s.old.log.failed) s.turn.code s.new.log.marks.stable s.old.words.words) (ap next same ∙ asks)))
+      (asks, ap old_of (s.turn.answered ∙ ap (answer_of s.old.words.layout (lists_of s.old.lists) (is_some s.old.log.failed) s.turn.code s.new.log.marks.stable s.old.words.words) (ap next same ∙ asks)))
 
   abbrev FailedBy : ℕ → Type 0
   FailedBy = caused.FailedBy log_seen data_seen s.about s.run s.old s.actors s.runs

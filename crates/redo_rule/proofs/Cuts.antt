@@ -74,7 +74,7 @@ module _ {L D : Type 0} (log_seen : L → Seen) (log_gives : L → Call → L �
           (record {
             of = same ∙ of ∙ F.of;
             slots = F.slots;
-            words = F.words ∙ ap word_count (sym (ap (λ (m : Me (Slot L D) (View L D)). m.0.pages) me_is));
+            words = F.words ∙ ap word_count (sym (ap (λ (m : Me (Slot L D) (View L D)). m.0.layout) me_is));
             who = x;
             one = seats_t;
             state = refl;
@@ -87,7 +87,7 @@ module _ {L D : Type 0} (log_seen : L → Seen) (log_gives : L → Call → L �
     first_left after same me_is = record {
       of = same ∙ F.of;
       slots = F.slots;
-      words = F.words ∙ ap word_count (sym (ap (λ (m : Me (Slot L D) (View L D)). m.0.pages) me_is));
+      words = F.words ∙ ap word_count (sym (ap (λ (m : Me (Slot L D) (View L D)). m.0.layout) me_is));
       none = ap (λ (m : Me (Slot L D) (View L D)). m.1) me_is ∙ F.none;
       empty = ap (λ (m : Me (Slot L D) (View L D)). m.0.held) me_is ∙ F.empty;
       rest = subst AreAtRest (sym (ap (λ (m : Me (Slot L D) (View L D)). m.0.seats) me_is)) (tail_rest first.me.0.seats F.rest);
@@ -101,7 +101,7 @@ module _ {L D : Type 0} (log_seen : L → Seen) (log_gives : L → Call → L �
       T.of,
       T.none,
       some_words,
-      joins_ok log_seen log_gives data_seen data_gives about first.id other.id first.me.0 other.me.0 T.pages T.some
+      joins_ok log_seen log_gives data_seen data_gives about first.id other.id first.me.0 other.me.0 T.some
           F.rest T.rest,
     )
 
@@ -109,7 +109,7 @@ module _ {L D : Type 0} (log_seen : L → Seen) (log_gives : L → Call → L �
     first_joined after same me_is = record {
       of = same ∙ F.of;
       slots = F.slots;
-      words = F.words ∙ ap word_count (sym (ap (λ (m : Me (Slot L D) (View L D)). m.0.pages) me_is));
+      words = T.words ∙ ap word_count (sym (ap (λ (m : Me (Slot L D) (View L D)). m.0.layout) me_is));
       none = ap (λ (m : Me (Slot L D) (View L D)). m.1) me_is ∙ F.none;
       empty = ap (λ (m : Me (Slot L D) (View L D)). m.0.held) me_is;
       rest = subst AreAtRest (sym (ap (λ (m : Me (Slot L D) (View L D)). m.0.seats) me_is)) (joined_rest other.me.0.seats first.me.0.seats T.rest F.rest);

@@ -4,9 +4,9 @@ use Rattle.std.specs.Prelude.{slice_index, slice_set}
 use lib.ListN.{get_elem?}
 use mathlib.Core.Option as maybe
 use Rattle.model_core.specs.Actors as model
-use Rattle.model_core.specs.{Given, HasLost, index, ReaderState, tail_of}
+use Rattle.model_core.specs.{ckpt_at, flushed_at, Given, HasLost, ReaderState, tail_of, write_at, wtail_at}
+use Rattle.model_core.specs.Layout.{failed_at}
 use Rattle.model_core.specs.Setup.{Setup}
-use Rattle.model_core.specs.declared.words.Word.TheVariants as word
 use Rattle.model_running.proofs.Archiving.{losing_at}
 use Rattle.model_running.proofs.Finished.{marks_same}
 use Rattle.model_running.specs.{history_of, marks_in, word_marks}
@@ -127,15 +127,15 @@ module _ {L D : Type 0} (log_seen : L → Seen) (log_gives : L → Call → L �
     abbrev desk : Desk L
     desk = desk_with E.parts.log E.beside
 
-    pub small : slice_index ws (index word.Failed) < 2 ^ 32
-    small = subst (λ (z : List ℕ). slice_index z (index word.Failed) < 2 ^ 32) E.words_are (small_code log_seen data_seen E.run E.parts actors E.runs)
+    pub small : slice_index ws failed_at < 2 ^ 32
+    small = subst (λ (z : List ℕ). slice_index z failed_at < 2 ^ 32) E.words_are (small_code log_seen data_seen E.run E.parts actors E.runs)
 
-    marks_are : (a b c d : ℕ) → a ≡ tail_of (slice_index ws (index word.Wtail)) → b ≡ slice_index ws (index word.Write) → c ≡ slice_index ws (index word.Flushed) → d ≡ slice_index ws (index word.Ckpt)
+    marks_are : (a b c d : ℕ) → a ≡ tail_of (slice_index ws wtail_at) → b ≡ slice_index ws write_at → c ≡ slice_index ws flushed_at → d ≡ slice_index ws ckpt_at
         → ◌≡◌ {A = Marks} (record { wtail = a; write = b; flushed = c; ckpt = d }) (marks_in E.parts.words.words)
     marks_are a b c d p q r t =
-        ap (λ (z : ℕ). record { wtail = z; write = b; flushed = c; ckpt = d }) p ∙ ap (λ (z : ℕ). record { wtail = tail_of (slice_index ws (index word.Wtail)); write = z; flushed = c; ckpt = d }) q
-        ∙ ap (λ (z : ℕ). record { wtail = tail_of (slice_index ws (index word.Wtail)); write = slice_index ws (index word.Write); flushed = z; ckpt = d }) r
-        ∙ ap (λ (z : ℕ). record { wtail = tail_of (slice_index ws (index word.Wtail)); write = slice_index ws (index word.Write); flushed = slice_index ws (index word.Flushed); ckpt = z }) t
+        ap (λ (z : ℕ). record { wtail = z; write = b; flushed = c; ckpt = d }) p ∙ ap (λ (z : ℕ). record { wtail = tail_of (slice_index ws wtail_at); write = z; flushed = c; ckpt = d }) q
+        ∙ ap (λ (z : ℕ). record { wtail = tail_of (slice_index ws wtail_at); write = slice_index ws write_at; flushed = z; ckpt = d }) r
+        ∙ ap (λ (z : ℕ). record { wtail = tail_of (slice_index ws wtail_at); write = slice_index ws write_at; flushed = slice_index ws flushed_at; ckpt = z }) t
         ∙ ap marks_in (sym E.words_are)
 
     in_slot : (k : ℕ) (x y : Slot L D) → get_elem? xs k ≡ maybe.some x → get_elem? xs k ≡ maybe.some y → ◌≡◌ {A = Slot L D} x y
@@ -158,8 +158,8 @@ module _ {L D : Type 0} (log_seen : L → Seen) (log_gives : L → Call → L �
 
     pub parts_left : (left : Left L D) (x y : Slot L D) (found : Desk L) → get_elem? xs 0 ≡ maybe.some x → x ≡ slot.Log found
         → left.log ≡ found.part → get_elem? xs 5 ≡ maybe.some y → y ≡ slot.Data left.store
-        → left.marks.wtail ≡ tail_of (slice_index ws (index word.Wtail)) → left.marks.write ≡ slice_index ws (index word.Write) → left.marks.flushed ≡ slice_index ws (index word.Flushed) → left.marks.ckpt ≡ slice_index ws (index word.Ckpt)
-        → left.code ≡ slice_index ws (index word.Failed) → LeavesParts log_seen log_gives data_seen data_gives about
+        → left.marks.wtail ≡ tail_of (slice_index ws wtail_at) → left.marks.write ≡ slice_index ws write_at → left.marks.flushed ≡ slice_index ws flushed_at → left.marks.ckpt ≡ slice_index ws ckpt_at
+        → left.code ≡ slice_index ws failed_at → LeavesParts log_seen log_gives data_seen data_gives about
         heard actors left
     parts_left left x y found at_log is log_is at_data store_is wtail write flushed ckpt code = record {
       run = E.run;
@@ -174,7 +174,7 @@ module _ {L D : Type 0} (log_seen : L → Seen) (log_gives : L → Call → L �
       log = log_is ∙ kept.same_log found desk (sym is ∙ in_slot 0 x (slot.Log desk) at_log E.log);
       data_part = kept.same_data left.store E.parts.store (sym store_is ∙ in_slot 5 y (slot.Data E.parts.store) at_data E.data_part);
       marks = marks_are left.marks.wtail left.marks.write left.marks.flushed left.marks.ckpt wtail write flushed ckpt;
-      code = code ∙ ap (λ (z : List ℕ). slice_index z (index word.Failed)) (sym E.words_are);
+      code = code ∙ ap (λ (z : List ℕ). slice_index z failed_at) (sym E.words_are);
     }
 
   module _ (heard : ℕ → Heard) (actors : List model.Actor) (left : Left L D) (P : LeavesParts log_seen log_gives

@@ -3,9 +3,10 @@ use Rattle.std.proofs.Common.{List, Option, [], ap, arith, get_or, length, refl,
 use lib.ListN.{get_elem?}
 use mathlib.Core.Option as maybe
 use Rattle.atomic_table.specs.declared.shared.Seat.{Seat}
+use Rattle.model_core.specs.declared.words.Layout.{Layout}
 use Rattle.redo_rule.proofs.Seated.{at_end}
 use Rattle.redo_rule.specs.Mine.{heard_of}
-use Rattle.redo_rule.specs.Sharing.{heard_by}
+use Rattle.redo_rule.specs.Sharing.{AreLaidOut, heard_by}
 use Rattle.redo_rule.specs.declared.law.About.{About}
 use Rattle.redo_rule.specs.declared.law.Heard.{Heard}
 use Rattle.redo_rule.specs.declared.law.Slot.{Slot}
@@ -38,6 +39,19 @@ pub one_knows : {L D : Type 0} (told : Option (About L D)) (seats more : List (S
 one_knows told seats more token is all one i seat e = ⊎_elim
     (λ t. all i seat t.1)
     (λ t. subst (λ (s : Seat _ _). s.me.0.about ≡ told) t.1 one)
+    (at_end seats token seat i (ap (λ l. get_elem? l i) (sym is) ∙ e))
+
+-- so of which words they have
+pub none_laid : {L D : Type 0} (layout : Layout) (seats : List (Seat (Slot L D) (View L D))) → seats ≡ []
+    → AreLaidOut layout seats
+none_laid layout seats none i seat e = absurd (maybe.some-ne-none seat (sym e ∙ ap (λ l. get_elem? l i) none))
+
+pub one_laid : {L D : Type 0} (layout : Layout) (seats more : List (Seat (Slot L D) (View L D)))
+    (token : Seat (Slot L D) (View L D)) → more ≡ seats ++ token ∷ [] → AreLaidOut layout seats
+    → token.me.0.layout ≡ layout → AreLaidOut layout more
+one_laid layout seats more token is all one i seat e = ⊎_elim
+    (λ t. all i seat t.1)
+    (λ t. subst (λ (s : Seat _ _). s.me.0.layout ≡ layout) t.1 one)
     (at_end seats token seat i (ap (λ l. get_elem? l i) (sym is) ∙ e))
 
 pub none_beyond : {A : Type 0} (l : List A) (i : ℕ) (a : A) → length l ≤ i → get_elem? l i ≡ maybe.some a → ⊥

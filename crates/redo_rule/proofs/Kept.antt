@@ -13,6 +13,7 @@ use Rattle.model_core.specs.AnswerFits.{AnswerFits}
 use Rattle.model_core.specs.LogSide.{LogSide}
 use Rattle.model_core.specs.Setup.{Setup}
 use Rattle.model_core.specs.Turn.{LogServed, Turn}
+use Rattle.model_core.specs.declared.words.Layout.{Layout}
 use Rattle.model_core.specs.declared.ops.Answer.{Answer}
 use Rattle.model_core.specs.declared.ops.Op.{Op}
 use Rattle.model_core.specs.declared.ops.Op.TheVariants as op
@@ -138,10 +139,12 @@ module _ {L D : Type 0} {archive : Bool} (log_seen : L → Seen) (data_seen : D 
   abbrev datas : DataLaws (run_data_side log_seen data_seen run)
   datas = laws_of_data log_seen data_seen run
 
-  pub fits_all : (code mark : ℕ) → AnswerFits a (answer_of (lists_of parts.lists) (is_some parts.log.failed) code mark parts.words.words (next a))
+  pub fits_all : (code mark : ℕ) → AnswerFits a
+      (answer_of parts.words.layout (lists_of parts.lists) (is_some parts.log.failed) code mark parts.words.words (next a))
   fits_all = may_turn.fits log_seen data_seen run parts actors runs logs datas n a at
 
-  pub marks_fit : (code mark : ℕ) → MarkFits a (answer_of (lists_of parts.lists) (is_some parts.log.failed) code mark parts.words.words (next a))
+  pub marks_fit : (code mark : ℕ) → MarkFits a
+      (answer_of parts.words.layout (lists_of parts.lists) (is_some parts.log.failed) code mark parts.words.words (next a))
   marks_fit = may_turn.mark_fits log_seen data_seen run parts actors runs logs datas n a at
 
   -- an append asks for nothing of the parts, and any other Op may be played on them
@@ -163,20 +166,20 @@ module _ {L D : Type 0} {archive : Bool} (log_seen : L → Seen) (data_seen : D 
       (λ t. subst (λ (o : Op). HasWholePages parts.store.shape o (lent a)) (sym t.1) tt)
       (append_or (next a))
 
-  pub words_there : OpWords parts.words.pages (next a)
-  words_there = subst (λ (k : ℕ). OpWords k (next a)) (sym runs.word_pages)
+  pub words_there : OpWords parts.words.layout (next a)
+  words_there = subst (λ (k : Layout). OpWords k (next a)) (sym runs.running.layout_is)
       (next_words (run_log_side log_seen data_seen run) (run_data_side log_seen data_seen run) run.setup
       runs.running.shared runs.running.log_ghost runs.running.page_ghost (lists_of parts.lists) parts.log
       parts.store actors n runs.running.both a at)
 
   abbrev answer_to : Op → Answer
-  answer_to = answer_of (lists_of parts.lists) (is_some parts.log.failed) 0 0 parts.words.words
+  answer_to = answer_of parts.words.layout (lists_of parts.lists) (is_some parts.log.failed) 0 0 parts.words.words
 
-  pub may_go : (pages : ℕ) (held : Option (Slot L D)) (stored : Option (Keeping D)) → pages ≡ parts.words.pages →
+  pub may_go : (layout : Layout) (held : Option (Slot L D)) (stored : Option (Keeping D)) → layout ≡ parts.words.layout →
       ((desk : Desk L) → held ≡ Some (slot.Log desk) → hand a ≡ Some 0 → ◌≡◌ {A = log.Part L} desk.part parts.log)
-      → ((d : Keeping D) → stored ≡ Some d → ◌≡◌ {A = store.Part D} d.part parts.store) → IsFreeToCheck a → MayGo pages held stored a
-  may_go pages held stored count with_log with_data free = record {
-    there = subst (λ (k : ℕ). OpWords k (next a)) (sym count) words_there;
+      → ((d : Keeping D) → stored ≡ Some d → ◌≡◌ {A = store.Part D} d.part parts.store) → IsFreeToCheck a → MayGo layout held stored a
+  may_go layout held stored count with_log with_data free = record {
+    there = subst (λ (k : Layout). OpWords k (next a)) (sym count) words_there;
     log = λ p is mine l lends. subst (λ (q : log.Part L). LogReady q l (next a)) (sym (with_log p is mine)) (log_ready l lends);
     data_part = λ d is l lends. subst (λ (e : store.Part D). DataReady e l (next a)) (sym (with_data d is)) (data_ready l lends);
     whole = λ d is. subst (λ (e : store.Part D). HasWholePages e.shape (next a) (lent a)) (sym (with_data d is)) whole_pages;
@@ -205,8 +208,8 @@ module _ {L D : Type 0} (log_seen : L → Seen) (log_gives : L → Call → L �
   pub first : get_elem? v.seats 0 ≡ maybe.some x
   first = ap (λ (z : List Numbered). get_elem? z 0) one
 
-  pub count : v.pages ≡ R.parts.words.pages
-  count = known.pages 0 x first
+  pub count : v.layout ≡ R.parts.words.layout
+  count = known.layout 0 x first
 
   pub here : get_elem? R.actors x.number ≡ maybe.some x.actor
   here = (known.mine 0 x first).1
@@ -220,7 +223,8 @@ module _ {L D : Type 0} (log_seen : L → Seen) (log_gives : L → Call → L �
   pub holds_content : (k : ℕ) → hand a ≡ Some k → v.held ≡ Some (slot_content R.parts R.beside k)
   holds_content k e = known.held 0 x k first e
 
-  pub fits : (code mark : ℕ) → AnswerFits a (answer_of (lists_of R.parts.lists) (is_some R.parts.log.failed) code mark R.parts.words.words (next a))
+  pub fits : (code mark : ℕ) → AnswerFits a (answer_of R.parts.words.layout (lists_of R.parts.lists)
+      (is_some R.parts.log.failed) code mark R.parts.words.words (next a))
   fits code mark = fits_all log_seen data_seen R.run R.parts R.actors R.runs x.number a here code mark
 
   -- WHAT A TURN LEAVES OF THE RUN, by which the seat's actor comes to this state: all but where the slots are.
@@ -248,7 +252,7 @@ module _ {L D : Type 0} (log_seen : L → Seen) (log_gives : L → Call → L �
 
   module _ (then : Numbered) (new : Parts L D) (beside : Beside) (after : List model.Actor) (heard : ℕ → Heard)
       (left : Leaves then new beside after heard) (w : View L D) (out : Bool) (about_w : w.about ≡ v.about)
-      (pages_w : w.pages ≡ v.pages) (seats_w : w.seats ≡ then ∷ [])
+      (layout_w : w.layout ≡ v.layout) (seats_w : w.seats ≡ then ∷ [])
       (own : (k : ℕ) → hand then.actor ≡ Some k → w.held ≡ Some (slot_content new beside k))
       (own_work : (e : Errand) → then.errand ≡ Some e → has_work e.step ≡ true
       → w.held ≡ Some (slot_content new beside 0))
@@ -264,7 +268,7 @@ module _ {L D : Type 0} (log_seen : L → Seen) (log_gives : L → Call → L �
     knows_then : Knows about new beside after heard R.seat_of R.keeper out id w
     knows_then = record {
       told = λ i y e. about_w ∙ known.told 0 x first;
-      pages = λ i y e. pages_w ∙ count ∙ sym left.same.words;
+      layout = λ i y e. layout_w ∙ count ∙ sym left.same.words;
       mine = λ i y e. sits_at y (only w.seats then i y seats_w e);
       free = λ i y e. subst (λ (z : Numbered). IsFreeToCheck z.actor) (only w.seats then i y seats_w e) left.free;
       held = λ i y k e held. own k (ap (λ (z : Numbered). hand z.actor) (only w.seats then i y seats_w e) ∙ held);
@@ -290,7 +294,7 @@ module _ {L D : Type 0} (log_seen : L → Seen) (log_gives : L → Call → L �
           let still = λ (i : ℕ) (y : Numbered) (at : get_elem? u.seats i ≡ maybe.some y).
           left.others y.number y.errand (far i y at) (K.errand i y at) in record {
             told = K.told;
-            pages = λ i y e. K.pages i y e ∙ sym left.same.words;
+            layout = λ i y e. K.layout i y e ∙ sym left.same.words;
             mine = λ i y e. (
               (K.mine i y e).0,
               (still i y e).0 ∙ (K.mine i y e).1,
@@ -377,6 +381,7 @@ module _ {L D : Type 0} (log_seen : L → Seen) (log_gives : L → Call → L �
       log_served = played.log_served;
       data_served = played.data_served;
       own_served = played.own_served;
+      layout = played.layout;
       words = played.words;
       lists = played.lists;
       answered = played.answered;
@@ -448,11 +453,11 @@ module _ {L D : Type 0} (log_seen : L → Seen) (log_gives : L → Call → L �
     pub goes_on : (held : Option (Slot L D)) (stored : Option (Keeping D)) → ((desk : Desk L) → held ≡ Some (slot.Log
         desk) → hand b ≡ Some 0 → ◌≡◌ {A = log.Part L} desk.part new.log) → ((d : Keeping D) → stored ≡ Some d → ◌≡◌
         {A = store.Part D} d.part new.store)
-        → MayGo v.pages held stored b
+        → MayGo v.layout held stored b
     goes_on held stored with_log with_data = may_go log_seen data_seen R.run new after runs_behind x.number b
-        here_behind v.pages held stored (count ∙ sym same.words) with_log with_data (stays_free (filled a f) r)
+        here_behind v.layout held stored (count ∙ sym same.words) with_log with_data (stays_free (filled a f) r)
 
-    module _ (w : View L D) (out : Bool) (about_w : w.about ≡ v.about) (pages_w : w.pages ≡ v.pages)
+    module _ (w : View L D) (out : Bool) (about_w : w.about ≡ v.about) (layout_w : w.layout ≡ v.layout)
         (seats_w : w.seats ≡ behind x f r ∷ [])
         (same_own : ◌≡◌ {A = Option OwnSide} beside.own R.beside.own) (own : (k : ℕ) → hand b ≡ Some k → w.held ≡ Some (slot_content new
         beside k))
@@ -524,7 +529,7 @@ module _ {L D : Type 0} (log_seen : L → Seen) (log_gives : L → Call → L �
             → ((k : ℕ) → k < 5 → slice_index new.words.words (7 + k) ≢ 0 → (hand b ≡ Some k) ⊎ ((slice_index s.words (7 + k) ≢ 0) × (hand a ≡ Some k → hand b ≡ Some k)))
             → Ruled log_seen log_gives data_seen data_gives about (record { words = new.words.words; homes = hs; views = slice_set s.views id w })
         kept hs are log_calls data_calls shape long home data_home turned = kept_then (behind x f r) new beside after heard
-            leaves w out about_w pages_w seats_w own no_work data_w (λ n c k e ne sits at held. others n c k ne at held)
+            leaves w out about_w layout_w seats_w own no_work data_w (λ n c k e ne sits at held. others n c k ne at held)
             (in_hand_still R.beside.own R.own sits_plain) data_others hs are log_calls data_calls shape long home
             data_home
             (λ k l busy. ⊎_elim (λ t. holds_behind k t) (λ t. held_still k (R.taken k l t.0) t.1) (turned k l busy))

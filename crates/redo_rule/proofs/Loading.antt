@@ -14,8 +14,9 @@ use Rattle.model_core.specs.declared.ops.Op.TheVariants as op
 use Rattle.model_core.specs.declared.ops.Step.{Step}
 use Rattle.model_core.specs.declared.steps.ReaderStep.{ReaderStep}
 use Rattle.model_core.specs.declared.steps.ReaderStep.TheVariants as reader_step
+use Rattle.model_core.specs.declared.words.Layout.{Layout}
 use Rattle.model_core.specs.declared.words.Word.TheVariants as word
-use Rattle.model_core.specs.{after_of, answer_of, archives, checked_of, filled, flat, followed, has_all, Listed, next, old_of, reader_op, reader_program, reader_took}
+use Rattle.model_core.specs.{after_of, answer_of, archives, checked_of, filled, flat, followed, has_all, layout_of, Listed, next, old_of, reader_op, reader_program, reader_took}
 use Rattle.model_core.specs.{ReaderState, shared_left, SharedWords, to_append, took, words_left}
 use Rattle.model_running.proofs.Archiving.{reader_is, stays_other, took_reader}
 use Rattle.model_running.proofs.ArchiverStays.{rises}
@@ -86,12 +87,12 @@ reader_loads r f answer =
     filled_loads r f answer (after_of reader_program s answer) r.step (loads answer s) refl
 
 -- a load of FLUSHED tells the word
-told_flushed : (ls : ℕ → List Listed) (broken : Bool) (code mark : ℕ) (ws : List ℕ) (r : ReaderState) (b : Bool) (st : ReaderStep)
+told_flushed : (layout : Layout) (ls : ℕ → List Listed) (broken : Bool) (code mark : ℕ) (ws : List ℕ) (r : ReaderState) (b : Bool) (st : ReaderStep)
     → b ≡ false → st ≡ reader_step.LoadFlushed
-    → old_of (answer_of ls broken code mark ws (cond b (op.Load word.Failed) (reader_op r st))) ≡ slice_index ws 3
-told_flushed ls broken code mark ws r b st unchecked is =
-    ap (λ (z : Bool). old_of (answer_of ls broken code mark ws (cond z (op.Load word.Failed) (reader_op r st)))) unchecked
-    ∙ ap (λ (z : ReaderStep). old_of (answer_of ls broken code mark ws (reader_op r z))) is
+    → old_of (answer_of layout ls broken code mark ws (cond b (op.Load word.Failed) (reader_op r st))) ≡ slice_index ws 3
+told_flushed layout ls broken code mark ws r b st unchecked is =
+    ap (λ (z : Bool). old_of (answer_of layout ls broken code mark ws (cond z (op.Load word.Failed) (reader_op r st)))) unchecked
+    ∙ ap (λ (z : ReaderStep). old_of (answer_of layout ls broken code mark ws (reader_op r z))) is
 
 module _ {L D : Type 0} {archive : Bool} (log_seen : L → Seen) (data_seen : D → Seen) (run : RunOf L D) (old new : Parts L D)
     (actors after : List model.Actor) (seat : ℕ) (answer : Answer) (step : Step)
@@ -112,8 +113,9 @@ module _ {L D : Type 0} {archive : Bool} (log_seen : L → Seen) (data_seen : D 
       let there = next_words E F run.setup m W.log_ghost W.page_ghost (lists_of old.lists) old.log old.store actors seat
       W.both t.who t.who_is in
       let words : ◌≡◌ {A = List ℕ} new.words.words (flat (shared_left m (next t.who))) =
-      t.words ∙ ap (λ (ws : List ℕ). words_left ws (next t.who)) W.flat_is
-      ∙ flat_left run.setup.pages m W.both.logged.sized (next t.who) there in
+      t.words ∙ ap (λ (ws : List ℕ). words_left old.words.layout ws (next t.who)) W.flat_is
+      ∙ ap (λ (l : Layout). words_left l (flat m) (next t.who)) W.layout_is
+      ∙ flat_left (layout_of run.setup) m W.both.logged.sized (next t.who) there in
       let now : slice_index new.words.words 3 ≡ (shared_left m (next t.who)).flushed =
       ap (λ (ws : List ℕ). slice_index ws 3) words in
       let old_is : slice_index old.words.words 3 ≡ m.flushed = ap (λ (ws : List ℕ). slice_index ws 3) W.flat_is in
@@ -134,10 +136,11 @@ module _ {L D : Type 0} {archive : Bool} (log_seen : L → Seen) (data_seen : D 
       let low = loaded seat r (t.who_is ∙ ap some is) in
       ⊎_elim (λ e. omega arith)
       (λ e.
-      let said = t.answered ∙ ap {B = Answer} (λ (a : model.Actor). answer_of (lists_of old.lists) (is_some old.log.failed) t.code
+      let said = t.answered ∙ ap {B = Answer} (λ (a : model.Actor). answer_of old.words.layout (lists_of old.lists)
+      (is_some old.log.failed) t.code
       new.log.marks.stable old.words.words (next a)) is in
       let told : old_of answer ≡ slice_index old.words.words 3 =
-      ap old_of said ∙ told_flushed (lists_of old.lists) (is_some old.log.failed) t.code new.log.marks.stable old.words.words
+      ap old_of said ∙ told_flushed old.words.layout (lists_of old.lists) (is_some old.log.failed) t.code new.log.marks.stable old.words.words
       r r.checks r.step e.0 e.1 in
       let mark = e.2 in omega arith) l
   its loaded (model.User u) is w left = absurd (stays_other (model.User u) answer tt w left)

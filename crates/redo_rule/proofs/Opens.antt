@@ -8,7 +8,7 @@ use Rattle.model_base.specs.declared.shape.Shape.{Shape}
 use Rattle.model_core.proofs.Lsns.{lsn_block}
 use Rattle.model_core.specs.Actors as model
 use Rattle.model_core.specs.Setup.{Setup}
-use Rattle.model_core.specs.{archives, Entry, flat, Given, index, ReaderState, Tiles}
+use Rattle.model_core.specs.{archives, Entry, flat, flushed_at, Given, layout_of, ReaderState, Tiles}
 use Rattle.model_core.specs.declared.words.Word.TheVariants as word
 use Rattle.model_logcore.proofs.StartEmpty.{start_empty}
 use Rattle.model_logcore.specs.{StartActor}
@@ -31,6 +31,8 @@ use Rattle.redo_drive.specs.declared.parts.Parts.{Parts}
 use Rattle.model_core.proofs.FailedCalls.{gives_hand}
 use Rattle.redo_rule.proofs.Holders.{holding}
 use Rattle.model_core.specs.Hands.{HoldsNothing}
+use Rattle.model_core.specs.declared.words.Layout.{Layout}
+use Rattle.redo_words.specs.{shape_layout}
 use Rattle.redo_follow.specs.Following.{Following}
 use Rattle.redo_rule.proofs.Seated.{not_working}
 use Rattle.redo_drive.specs.Playing.{run_log_side}
@@ -45,6 +47,13 @@ use Rattle.redo_rule.specs.declared.law.Slot.{Slot}
 use Rattle.redo_rule.specs.declared.law.Slot.TheVariants as slot
 use Rattle.redo_rule.specs.declared.law.View.{View}
 use Rattle.redo_store.specs.Part as store
+
+-- which words a run has is told by the shape of its store
+pub same_layout : (shape : Shape) (c : Setup) → shape.pages ≡ c.pages → shape.page_size ≡ c.page_size
+    → ◌≡◌ {A = Layout} (shape_layout shape) (layout_of c)
+same_layout shape c pages size =
+    ap (λ (n : ℕ). let l : Layout = record { pages = n; page_size = shape.page_size } in l) pages
+    ∙ ap (λ (n : ℕ). let l : Layout = record { pages = c.pages; page_size = n } in l) size
 
 -- what is known of the data part
 abbrev pub part_or : {D : Type 0} → store.Part D → Option (Keeping D) → store.Part D
@@ -146,8 +155,8 @@ module _ {L D R : Type 0} (log_seen : L → Seen) (log_gives : L → Call → L 
   knows_first : Known 0 (first_view about)
   knows_first = record {
     told = λ i x e. refl;
-    pages = λ i x e. ap (λ (z : Shape). z.pages) (sym B.is_run.shape) ∙ B.from.runs.its_pages ∙ sym
-        B.from.runs.word_pages;
+    layout = λ i x e. ap shape_layout (sym B.is_run.shape) ∙ same_layout B.run.shape B.run.setup B.from.runs.its_pages B.from.runs.its_page_size
+        ∙ sym B.from.runs.running.layout_is;
     mine = λ i x e. (refl, (stand i x e).here, (stand i x e).silent);
     free = λ i x e _. fresh_one x.number x.actor (stand i x e).here;
     held = λ i x k e h. let z = (fresh_one x.number x.actor (stand i x e).here).no_slot in absurd (cc);
@@ -164,7 +173,7 @@ module _ {L D R : Type 0} (log_seen : L → Seen) (log_gives : L → Call → L 
   free_word : (k : ℕ) → k < 5 → slice_index start.parts.words.words (7 + k) ≡ 0
   free_word zero l = ap (λ (ws : List ℕ). slice_index ws 7) B.at_start.words_are ∙ B.at_start.starts.words.device
   free_word (suc i) l = ap (λ (ws : List ℕ). slice_index ws (7 + suc i)) B.at_start.words_are ∙ ap (slice_index (flat B.at_start.words)) (let q : 7 + suc i ≡ 8 + i = omega arith in q)
-      ∙ flat_read B.run.setup.pages B.at_start.words B.at_start.starts.words.sized (word.List i) (omega arith) ∙ B.at_start.starts.words.lists i
+      ∙ flat_read (layout_of B.run.setup) B.at_start.words B.at_start.starts.words.sized (word.List i) (omega arith) ∙ B.at_start.starts.words.lists i
 
   opens_one : Ruled log_seen log_gives data_seen data_gives about (opening start.parts.words.words (slots_of
       start.parts beside) (first_view about))
@@ -191,7 +200,7 @@ module _ {L D R : Type 0} (log_seen : L → Seen) (log_gives : L → Call → L 
       blocks = tt;
     };
     loaded = λ n r at. none_loaded B.run.setup B.at_start.seat_of B.at_start.writer n
-        (slice_index start.parts.words.words (index word.Flushed)) r (B.at_start.starts.each n (model.Reader r) at);
+        (slice_index start.parts.words.words flushed_at) r (B.at_start.starts.each n (model.Reader r) at);
     count = ap length (are log_seen data_seen stands about followers many start B);
     log_calls = subst (λ (z : log.Part L). CallsOn log_gives about.opened.value.log.dev about.opened.value.log.failed z.dev z.failed) (sym B.log) (not_called log_gives about.opened.value.log.dev about.opened.value.log.failed);
     data_calls = subst (λ (z : store.Part D). CallsOn data_gives about.opened.value.store.dev about.opened.value.store.failed z.dev z.failed) (sym B.data_part) (not_called data_gives about.opened.value.store.dev about.opened.value.store.failed);

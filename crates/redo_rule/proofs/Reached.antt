@@ -3,9 +3,9 @@ use Rattle.std.proofs.Common.{Bool, List, cond, false, refl, true, ap, arith, in
 use Rattle.std.specs.Prelude.{slice_index}
 use lib.ListN.{get_elem?}
 use mathlib.Core.Option as maybe
-use Rattle.model_core.specs.{Given, HasLost, index, SharedWords}
+use Rattle.model_core.specs.{Given, HasLost, SharedWords}
+use Rattle.model_core.specs.Layout.{failed_at}
 use Rattle.model_core.specs.Actors as model
-use Rattle.model_core.specs.declared.words.Word.TheVariants as word
 use Rattle.model_running.proofs.Archiving.{none_loses}
 use Rattle.model_running.proofs.Finished.{marks_same}
 use Rattle.model_running.specs.{marks_in}
@@ -48,11 +48,11 @@ module _ {L D : Type 0} {archive : Bool} (log_seen : L → Seen) (data_seen : D 
       parts.words.words) a
   within i a at = subst (λ (k : Marks). HasMarksWithin k a) (sym (marks_same parts.words.words m has_marks.1)) (within_words (run_log_side log_seen data_seen run) (run_data_side log_seen data_seen run) run.setup (core_of log_seen data_seen run parts actors) has_marks i a at)
 
-  its_code : slice_index parts.words.words (index word.Failed) ≡ m.failed
-  its_code = ap (λ (ws : List ℕ). slice_index ws (index word.Failed)) has_marks.1
+  its_code : slice_index parts.words.words failed_at ≡ m.failed
+  its_code = ap (λ (ws : List ℕ). slice_index ws failed_at) has_marks.1
 
   pub code_shows : (i : ℕ) (a : model.Actor) → get_elem? actors i ≡ maybe.some a → HasMetFailure a → 0 < slice_index
-      parts.words.words (index word.Failed)
+      parts.words.words failed_at
   code_shows i a at met = let less = has_marks.2.of_log.failures_show i a at met in let is = its_code in omega arith
 
   -- who has lost an append archives the run
@@ -65,7 +65,7 @@ module _ {L D : Type 0} {archive : Bool} (log_seen : L → Seen) (data_seen : D 
           (subst (λ (b : Bool). cond {A = Type 0} b (Unit {0}) (0 < run.setup.first_reader)) is runs.followers) code lost)
 
   -- FAILED's code is one that a call of a part has, or, where the run is archived, one that an append has
-  pub has_cause : (code : ℕ) → code ≡ slice_index parts.words.words (index word.Failed) → 0 < code → HasFailedBy log_seen Log (log_seen run.first_log.dev).faults parts.log.dev parts.log.failed code ⊎ HasFailedBy data_seen Data (data_seen run.first_data.dev).faults parts.store.dev parts.store.failed code
+  pub has_cause : (code : ℕ) → code ≡ slice_index parts.words.words failed_at → 0 < code → HasFailedBy log_seen Log (log_seen run.first_log.dev).faults parts.log.dev parts.log.failed code ⊎ HasFailedBy data_seen Data (data_seen run.first_data.dev).faults parts.store.dev parts.store.failed code
       ⊎ ((archive ≡ true) × HasLost actors code)
   has_cause code is some =
       let same : code ≡ m.failed = is ∙ its_code in

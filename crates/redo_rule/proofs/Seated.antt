@@ -70,7 +70,7 @@ module _ {L D : Type 0} (log_seen : L → Seen) (log_gives : L → Call → L �
       let in_right : (i : ℕ) (y : Numbered) → get_elem? (cut_right v).seats i ≡ maybe.some y → ◌≡◌ {A = Numbered} x y = λ i y e. only (cut_right v).seats x i y (ap first_numbered seats) e in
       let left : Knows about R.parts R.beside R.actors R.heard seat_of keeper R.out id (cut_left v) = record {
         told = λ i y e. K.told 0 x first;
-        pages = λ i y e. K.pages (suc i) y (in_left i y e);
+        layout = λ i y e. K.layout (suc i) y (in_left i y e);
         mine = λ i y e. let far : y.number ≢ x.number = apart i y (sym (ap (λ (l : List Numbered). get_elem?
             (rest_numbered l) i) seats) ∙ e) in (
               old_seat y.number far ∙ (K.mine (suc i) y (in_left i y e)).0,
@@ -86,7 +86,7 @@ module _ {L D : Type 0} (log_seen : L → Seen) (log_gives : L → Call → L �
       } in
       let right : Knows about R.parts R.beside R.actors R.heard seat_of keeper R.out fresh (cut_right v) = record {
         told = λ i y e. K.told 0 x first;
-        pages = λ i y e. K.pages 0 x first;
+        layout = λ i y e. K.layout 0 x first;
         mine = λ i y e. subst (λ (z : Numbered). (seat_of z.number ≡ fresh) × (get_elem? R.actors z.number ≡
             maybe.some z.actor) × (R.heard z.number ≡ z.heard)) (in_right i y e) (
               ap (λ (t : Bool). cond t fresh
@@ -108,7 +108,7 @@ module _ {L D : Type 0} (log_seen : L → Seen) (log_gives : L → Call → L �
       → Knows about R.parts R.beside R.actors R.heard seat_of keeper R.out j u = λ j u ne e. let N = R.knows j u e in
       record {
         told = N.told;
-        pages = N.pages;
+        layout = N.layout;
         mine = λ i y f. (
           old_seat y.number (λ z. ne (sym (N.mine i y f).0 ∙ ap R.seat_of z ∙ (K.mine 0 x first).0)) ∙
               (N.mine i y f).0,
@@ -167,10 +167,10 @@ module _ {L D : Type 0} (log_seen : L → Seen) (log_gives : L → Call → L �
   first_is (Some x) p d e = inl e
   first_is None p d e = inr e
 
-  pub joins_ok : (id other : ℕ) (v w : View L D) → v.pages ≡ w.pages
+  pub joins_ok : (id other : ℕ) (v w : View L D)
       → (x : Numbered) × (get_elem? w.seats 0 ≡ maybe.some x) → AreAtRest v.seats → AreAtRest w.seats
       → Joins Law id v other w (taken_in v w) spent
-  joins_ok id other v w same_pages some free_v free_w s R at ne at' =
+  joins_ok id other v w some free_v free_w s R at ne at' =
       let both : View L D = taken_in v w in
       let there : get_elem? s.views other ≡ maybe.some w = ⊎_elim (λ t. absurd (ne t.0)) (λ t. t.1) (at_set s.views id other both w at') in
       let K = R.knows id v at in
@@ -181,7 +181,7 @@ module _ {L D : Type 0} (log_seen : L → Seen) (log_gives : L → Call → L �
       let stays : (n : ℕ) → n ≢ other → cond (n == other) id n ≡ n = λ n far. ap (λ (t : Bool). cond t id n) (ne_eqb n other far) in
       let here : Knows about R.parts R.beside R.actors R.heard seat_of keeper R.out id both = record {
         told = λ i y e. N.told 0 some.0 some.1;
-        pages = λ i y e. ⊎_elim (λ t. same_pages ∙ N.pages t.0 y t.1) (λ t. K.pages t.0 y t.1) (in_both w.seats v.seats i y e);
+        layout = λ i y e. N.layout 0 some.0 some.1;
         mine = λ i y e. ⊎_elim
             (λ t. let m = N.mine t.0 y t.1 in (moved (R.seat_of y.number) m.0, m.1, m.2))
             (λ t. let m = K.mine t.0 y t.1 in (stays (R.seat_of y.number) (λ z. ne (sym z ∙ m.0)) ∙ m.0, m.1, m.2))
@@ -199,7 +199,7 @@ module _ {L D : Type 0} (log_seen : L → Seen) (log_gives : L → Call → L �
       } in
       let gone : Knows about R.parts R.beside R.actors R.heard seat_of keeper R.out other spent = record {
         told = λ i y e. absurd (maybe.some-ne-none y (sym e));
-        pages = λ i y e. absurd (maybe.some-ne-none y (sym e));
+        layout = λ i y e. absurd (maybe.some-ne-none y (sym e));
         mine = λ i y e. absurd (maybe.some-ne-none y (sym e));
         free = λ i y e. absurd (maybe.some-ne-none y (sym e));
         held = λ i y k e h. absurd (maybe.some-ne-none y (sym e));
@@ -211,7 +211,7 @@ module _ {L D : Type 0} (log_seen : L → Seen) (log_gives : L → Call → L �
       → Knows about R.parts R.beside R.actors R.heard seat_of keeper R.out j u = λ j u far e. let M = R.knows j u e in
       record {
         told = M.told;
-        pages = M.pages;
+        layout = M.layout;
         mine = λ i y f. let m = M.mine i y f in (stays (R.seat_of y.number) (λ z. far (sym m.0 ∙ z)) ∙ m.0, m.1, m.2);
         free = M.free;
         held = M.held;

@@ -53,18 +53,18 @@ module _ {L D : Type 0} {table : TableId} {seat : Seat (Slot L D) (View L D)} {a
   plain = filled a no_filling
 
   -- the word that it asks for is one of the table's
-  pub word_below : (o : Op) (w : Word) → next a ≡ o → (OpWords seat.me.0.pages o → IsWord seat.me.0.pages w) → index w < table.words
-  word_below o w is names = subst (λ (n : ℕ). index w < n) (sym mine.words) (index_below seat.me.0.pages w (names (subst (OpWords seat.me.0.pages) is mine.may.there)))
+  pub word_below : (o : Op) (w : Word) → next a ≡ o → (OpWords seat.me.0.layout o → IsWord seat.me.0.layout w) → index seat.me.0.layout w < table.words
+  word_below o w is names = subst (λ (n : ℕ). index seat.me.0.layout w < n) (sym mine.words) (index_below seat.me.0.layout w (names (subst (OpWords seat.me.0.layout) is mine.may.there)))
 
   asks : (o : Op) → next a ≡ o → next mine.who.actor ≡ o
   asks o e = ap next mine.state ∙ e
 
   -- the list that it takes or gives is one of four
   pub give_below : (i : ℕ) → next a ≡ op.GiveList i → i < 4
-  give_below i e = subst (OpWords seat.me.0.pages) e mine.may.there
+  give_below i e = subst (OpWords seat.me.0.layout) e mine.may.there
 
   pub oldest_below : (i : ℕ) → next a ≡ op.TakeOldest i → i < 4
-  oldest_below i e = subst (OpWords seat.me.0.pages) e mine.may.there
+  oldest_below i e = subst (OpWords seat.me.0.layout) e mine.may.there
 
   -- what its actor's Op does with what it holds
   pub goes : (o : Op) → next a ≡ o → (f : Filling) → Handles o (hand a) (λ r. hand (took (filled a f) r))
@@ -159,19 +159,19 @@ module _ {L D : Type 0} {table : TableId} {seat : Seat (Slot L D) (View L D)} {a
     abbrev pub Asks : ℕ → (ℕ → ℕ) → (ℕ → Me (Slot L D) (View L D) → Type 0) → Type 0
     Asks i f then = (seat.table_id ≡ table) × (i < table.words) × Allows (Ruled log_seen log_gives data_seen data_gives about) table.slots seat.id seat.me i f then
 
-    asks_word : (o : Op) (w : Word) (i : ℕ) (f : ℕ → ℕ) → next a ≡ o → (OpWords seat.me.0.pages o → IsWord seat.me.0.pages w) → i ≡ index w → Allows (Ruled log_seen log_gives data_seen data_gives about) table.slots seat.id seat.me (index w) f (saw log_seen data_seen seat.me) → Asks i f (saw log_seen data_seen seat.me)
+    asks_word : (o : Op) (w : Word) (i : ℕ) (f : ℕ → ℕ) → next a ≡ o → (OpWords seat.me.0.layout o → IsWord seat.me.0.layout w) → i ≡ index seat.me.0.layout w → Allows (Ruled log_seen log_gives data_seen data_gives about) table.slots seat.id seat.me (index seat.me.0.layout w) f (saw log_seen data_seen seat.me) → Asks i f (saw log_seen data_seen seat.me)
     asks_word o w i f is names e allows = (mine.of, (let b = word_below o w is names in omega arith), subst (λ (k : ℕ). Allows (Ruled log_seen log_gives data_seen data_gives about) table.slots seat.id seat.me k f (saw log_seen data_seen seat.me)) (sym e) allows)
 
-    pub load_ok : (w : Word) (i : ℕ) → next a ≡ op.Load w → i ≡ index w → Asks i (λ n. n) (saw log_seen data_seen seat.me)
+    pub load_ok : (w : Word) (i : ℕ) → next a ≡ op.Load w → i ≡ index seat.me.0.layout w → Asks i (λ n. n) (saw log_seen data_seen seat.me)
     load_ok w i is e = asks_word (op.Load w) w i (λ n. n) is (λ z. z) e (allows_load log_seen log_gives data_seen data_gives about table.slots seat.id seat.me mine.who mine.one mine.plain w (asks (op.Load w) is))
 
-    pub store_ok : (w : Word) (x i : ℕ) → next a ≡ op.Store w x → i ≡ index w → Asks i (λ _. x) (saw log_seen data_seen seat.me)
+    pub store_ok : (w : Word) (x i : ℕ) → next a ≡ op.Store w x → i ≡ index seat.me.0.layout w → Asks i (λ _. x) (saw log_seen data_seen seat.me)
     store_ok w x i is e = asks_word (op.Store w x) w i (λ _. x) is (λ z. z) e (allows_store log_seen log_gives data_seen data_gives about table.slots seat.id seat.me mine.who mine.one mine.plain w x (asks (op.Store w x) is))
 
-    pub add_ok : (w : Word) (x i : ℕ) → next a ≡ op.Add w x → i ≡ index w → Asks i (λ n. (n + x) % 2 ^ 64) (saw log_seen data_seen seat.me)
+    pub add_ok : (w : Word) (x i : ℕ) → next a ≡ op.Add w x → i ≡ index seat.me.0.layout w → Asks i (λ n. (n + x) % 2 ^ 64) (saw log_seen data_seen seat.me)
     add_ok w x i is e = asks_word (op.Add w x) w i (λ n. (n + x) % 2 ^ 64) is (λ z. z) e (allows_add log_seen log_gives data_seen data_gives about table.slots seat.id seat.me mine.who mine.one mine.plain w x (asks (op.Add w x) is))
 
-    pub swap_ok : (w : Word) (x y i : ℕ) → next a ≡ op.Swap w x y → i ≡ index w → Asks i (λ n. either (n == x) y n) (saw log_seen data_seen seat.me)
+    pub swap_ok : (w : Word) (x y i : ℕ) → next a ≡ op.Swap w x y → i ≡ index seat.me.0.layout w → Asks i (λ n. either (n == x) y n) (saw log_seen data_seen seat.me)
     swap_ok w x y i is e = asks_word (op.Swap w x y) w i (λ n. either (n == x) y n) is (λ z. z) e (allows_swap log_seen log_gives data_seen data_gives about table.slots seat.id seat.me mine.who mine.one mine.plain w x y (asks (op.Swap w x y) is))
 
     pub append_ok : (met : Option DevError) → Appends a → Asks 0 (λ n. n) (appended log_seen data_seen met seat.me)

@@ -143,6 +143,7 @@ rested stands v old step new is free h =
       record {
         about = refl;
         number = refl;
+        layout = refl;
         same = t.same;
         since = [];
         heard = sym (append-nil (heard_of v).groups);
@@ -164,7 +165,7 @@ module _ {L D R : Type 0} (table : TableId) (log_seen : L → Seen) (data_seen :
     (stands : R → List Given → Type 0) (seat : Seat (Slot L D) (View L D)) (x : Numbered) (old new : Actor R)
     (step : Step) (f : Filling) (r : Answer) (held : Option (Slot L D)) (stored : Option (Keeping D))
     (carried had : List (ℕ × Slot L D))
-    (m' : Me (Slot L D) (View L D)) (slots : table.slots ≡ 6) (words : table.words ≡ word_count seat.me.0.pages)
+    (m' : Me (Slot L D) (View L D)) (slots : table.slots ≡ 6) (words : table.words ≡ word_count seat.me.0.layout)
     (one : seat.me.0.seats ≡ x ∷ []) (state : x.actor ≡ view_of old)
     (plain : ◌≡◌ {A = Option Errand} x.errand None)
     (stepped : Stepped log_seen data_seen x f r held stored carried (seat.me.0, had) m')
@@ -179,14 +180,14 @@ module _ {L D R : Type 0} (table : TableId) (log_seen : L → Seen) (data_seen :
   its = record {
     of = of;
     slots = slots;
-    words = words ∙ ap word_count (sym (ap (λ (w : View L D). w.pages) view));
+    words = words ∙ ap word_count (sym (ap (λ (w : View L D). w.layout) view));
     who = behind x f r;
     one = ap (λ (w : View L D). w.seats) view;
     state = then;
     plain = plain;
     carries = subst (λ (h : Option ℕ). Carries h last.me) (ap hand (sym t.state)) carries;
-    may = subst (λ (w : View L D). MayGo w.pages w.held w.data_part (view_of new)) (sym view)
-        (subst (λ (z : model.Actor). MayGo seat.me.0.pages held stored z) then stepped.may);
+    may = subst (λ (w : View L D). MayGo w.layout w.held w.data_part (view_of new)) (sym view)
+        (subst (λ (z : model.Actor). MayGo seat.me.0.layout held stored z) then stepped.may);
   }
 
   has_played : HasPlayed log_seen data_seen seat.me.0 (view_of old) step (view_of new)
@@ -214,6 +215,7 @@ module _ {L D R : Type 0} (table : TableId) (log_seen : L → Seen) (data_seen :
       let more : List Given = handed_by (filled (view_of old) f) in record {
         about = ap (λ (w : View L D). w.about) view;
         number = ap (λ (w : View L D). number_of w) view ∙ sym (ap number_in one);
+        layout = ap (λ (w : View L D). w.layout) view;
         same = t.same;
         since = more;
         heard = ap (λ (w : View L D). (heard_of w).groups) view

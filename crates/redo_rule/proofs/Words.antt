@@ -5,28 +5,29 @@ use Rattle.std.proofs.lemmas.List.{set-get_or}
 use prog.Atomic.{either}
 use Rattle.model_core.proofs.TurnWords.{IsPlain}
 use Rattle.model_core.specs.{index}
+use Rattle.model_core.specs.declared.words.Layout.{Layout}
 use Rattle.model_core.specs.declared.words.Word.{Word}
 use Rattle.model_core.specs.declared.words.Word.TheVariants as word
 
-pub plain_off : (w : Word) → IsPlain w → (k : ℕ) → k < 5 → 7 + k ≢ index w
-plain_off word.Sn off k l e = omega arith
-plain_off word.Write off k l e = omega arith
-plain_off word.Wtail off k l e = omega arith
-plain_off word.Flushed off k l e = omega arith
-plain_off word.Ckpt off k l e = omega arith
-plain_off word.Ctail off k l e = omega arith
-plain_off word.Failed off k l e = omega arith
-plain_off word.Device off k l e = off
-plain_off (word.List i) off k l e = off
-plain_off (word.Wlink i) off k l e = omega arith
-plain_off (word.Clink i) off k l e = omega arith
-plain_off (word.Cell i) off k l e = omega arith
-plain_off (word.First i) off k l e = omega arith
-plain_off (word.Place i) off k l e = omega arith
-plain_off (word.Latch p) off k l e = omega arith
-plain_off (word.Newest p) off k l e = omega arith
-plain_off (word.Oldest p) off k l e = omega arith
-plain_off (word.Frame p i) off k l e = omega arith
+pub plain_off : (layout : Layout) (w : Word) → IsPlain w → (k : ℕ) → k < 5 → 7 + k ≢ index layout w
+plain_off layout word.Sn off k l e = omega arith
+plain_off layout word.Write off k l e = omega arith
+plain_off layout word.Wtail off k l e = omega arith
+plain_off layout word.Flushed off k l e = omega arith
+plain_off layout word.Ckpt off k l e = omega arith
+plain_off layout word.Ctail off k l e = omega arith
+plain_off layout word.Failed off k l e = omega arith
+plain_off layout word.Device off k l e = off
+plain_off layout (word.List i) off k l e = off
+plain_off layout (word.Wlink i) off k l e = omega arith
+plain_off layout (word.Clink i) off k l e = omega arith
+plain_off layout (word.Cell i) off k l e = omega arith
+plain_off layout (word.First i) off k l e = omega arith
+plain_off layout (word.Place i) off k l e = omega arith
+plain_off layout (word.Latch p) off k l e = omega arith
+plain_off layout (word.Newest p) off k l e = omega arith
+plain_off layout (word.Oldest p) off k l e = omega arith
+plain_off layout (word.Frame p i) off k l e = omega arith
 
 -- what a compare-exchange leaves
 pub swapped : (ws : List ℕ) (i x y : ℕ) → slice_set ws i (either (eqb (slice_index ws i) x) y (slice_index ws i)) ≡ cond (slice_index ws i == x) (slice_set ws i y) ws

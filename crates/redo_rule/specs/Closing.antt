@@ -4,9 +4,9 @@ use lib.ListN.{get_elem?}
 use mathlib.Core.Option.{some}
 use Rattle.atomic_table.specs.Table.{Final, Seen as SeenBy, State}
 use Rattle.atomic_table.specs.declared.shared.Seat.{Seat}
-use Rattle.model_core.specs.{archives, index, ReaderState}
+use Rattle.model_core.specs.{archives, ReaderState}
 use Rattle.model_core.specs.Actors as model
-use Rattle.model_core.specs.declared.words.Word.TheVariants as word
+use Rattle.model_core.specs.Layout.{failed_at}
 use Rattle.model_running.specs.{HaveEnded, marks_in}
 use Rattle.model_script.specs.declared.script.ScriptLine.{ScriptLine}
 use Rattle.redo_archiver.specs.{append_code}
@@ -58,7 +58,7 @@ module _ {L D : Type 0} (log_seen : L → Seen) (log_gives : L → Call → L �
     pub log : left.log ≡ last.log
     pub data_part : left.store ≡ last.store
     pub marks : left.marks ≡ marks_in last.words.words
-    pub code : left.code ≡ slice_index last.words.words (index word.Failed)
+    pub code : left.code ≡ slice_index last.words.words failed_at
 
   -- what a table is as it is closed is what a run of some actors has come to
   abbrev pub Holds : About L D → State (Slot L D) (View L D) → Type 0

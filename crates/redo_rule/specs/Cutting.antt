@@ -34,7 +34,7 @@ module _ {L D : Type 0} where
   pub record IsFirst (table : TableId) (first : Seat (Slot L D) (View L D)) : Type 0 where
     pub of : first.table_id ≡ table
     pub slots : table.slots ≡ SLOTS
-    pub words : table.words ≡ word_count first.me.0.pages
+    pub words : table.words ≡ word_count first.me.0.layout
     pub none : first.me.1 ≡ []
     pub empty : first.me.0.held ≡ None
     pub rest : AreAtRest first.me.0.seats
@@ -49,7 +49,7 @@ module _ {L D : Type 0} where
 
   pub record MayTakeIn (table : TableId) (first other : Seat (Slot L D) (View L D)) : Type 0 where
     pub of : other.table_id ≡ table
-    pub pages : first.me.0.pages ≡ other.me.0.pages
+    pub words : table.words ≡ word_count other.me.0.layout
     pub none : other.me.1 ≡ []
     pub some : (x : Numbered) × (get_elem? other.me.0.seats 0 ≡ some x)
     pub rest : AreAtRest other.me.0.seats

@@ -3,12 +3,11 @@ use Rattle.std.specs.Prelude.{List, [], cond, slice_index, ℕ, ◌++◌, ◌∷
 use Rattle.std.specs.List.{AllByRecursion}
 use lib.ListN.{get_elem?}
 use mathlib.Core.Option.{some}
-use Rattle.model_core.specs.{Entry, Given, index, ReaderState}
+use Rattle.model_core.specs.{Entry, flushed_at, Given, ReaderState}
 use Rattle.model_core.specs.Actors as model
 use Rattle.model_core.specs.LogSide.{LogSide}
 use Rattle.model_core.specs.declared.steps.ReaderStep.{ReaderStep}
 use Rattle.model_core.specs.declared.steps.ReaderStep.TheVariants as reader_step
-use Rattle.model_core.specs.declared.words.Word.TheVariants as word
 use Rattle.redo_drive.specs.Running.{groups_of}
 use Rattle.redo_rule.specs.declared.law.Block.{Block}
 use Rattle.redo_rule.specs.declared.law.Heard.{Heard}
@@ -48,4 +47,4 @@ HaveHandedOn D base part heard actors log =
 -- what a reader of the log has loaded of FLUSHED is at most that
 abbrev pub HaveLoaded : (words : List ℕ) → List model.Actor → Type 0
 HaveLoaded words actors = (n : ℕ) (r : ReaderState) → get_elem? actors n ≡ some (model.Reader r)
-    → r.mark ≤ slice_index words (index word.Flushed)
+    → r.mark ≤ slice_index words flushed_at

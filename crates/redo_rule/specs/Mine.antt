@@ -38,11 +38,12 @@ heard_in (x ∷ xs) = x.heard
 abbrev pub heard_of : {L D : Type 0} → View L D → Heard
 heard_of v = heard_in v.seats
 
--- THE SEAT OF AN ACTOR, LATER. It keeps its number and what it knows of its table; the groups that it has heard since, the
+-- THE SEAT OF AN ACTOR, LATER. It keeps its number, and what it knows of its table and its words; the groups that it has heard since, the
 -- actor's receiver got; and it has appended no fewer blocks.
 pub record IsSameSeat {L D R : Type 0} (stands : R → List Given → Type 0) (v : View L D) (a : Actor R) (w : View L D) (b : Actor R) : Type 0 where
   pub about : w.about ≡ v.about
   pub number : number_of w ≡ number_of v
+  pub layout : w.layout ≡ v.layout
   pub same : IsSameFollower (follower_of a) (follower_of b)
   pub since : List Given
   pub heard : (heard_of w).groups ≡ (heard_of v).groups ++ since
@@ -55,13 +56,13 @@ pub record IsSameSeat {L D R : Type 0} (stands : R → List Given → Type 0) (v
 pub record Mine {L D : Type 0} (table : TableId) (seat : Seat (Slot L D) (View L D)) (a : model.Actor) : Type 0 where
   pub of : seat.table_id ≡ table
   pub slots : table.slots ≡ SLOTS
-  pub words : table.words ≡ word_count seat.me.0.pages
+  pub words : table.words ≡ word_count seat.me.0.layout
   pub who : Numbered
   pub one : seat.me.0.seats ≡ who ∷ []
   pub state : who.actor ≡ a
   pub plain : ◌≡◌ {A = Option Errand} who.errand None
   pub carries : Carries (hand a) seat.me
-  pub may : MayGo seat.me.0.pages seat.me.0.held seat.me.0.data_part a
+  pub may : MayGo seat.me.0.layout seat.me.0.held seat.me.0.data_part a
 
 -- the actor of this seat has had a turn of the definition, with some answer and with what that put into it, in the run
 -- that its table is about, as the seat was told; and its step ended so

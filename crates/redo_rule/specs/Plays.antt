@@ -14,6 +14,7 @@ use Rattle.model_core.specs.declared.ops.Op.{Op}
 use Rattle.model_core.specs.declared.ops.Op.TheVariants as op
 use Rattle.model_core.specs.declared.ops.Step.{Step}
 use Rattle.model_core.specs.declared.steps.UserStep.TheVariants as user_step
+use Rattle.model_core.specs.declared.words.Layout.{Layout}
 use Rattle.redo_archiver.specs.{append_answer}
 use Rattle.redo_disk.specs.Seen.{Seen}
 use Rattle.redo_disk.specs.declared.error.DevError.{DevError}
@@ -98,7 +99,7 @@ module _ {L D : Type 0} where
   abbrev pub view_behind : View L D → Numbered → Filling → Answer → Option (Slot L D) → Option (Keeping D) → View L D
   view_behind v x f r held stored = record {
     about = v.about;
-    pages = v.pages;
+    layout = v.layout;
     seats = behind x f r ∷ [];
     held = held;
     data_part = stored;
@@ -107,15 +108,15 @@ module _ {L D : Type 0} where
   abbrev pub view_reaching : View L D → store.Part D → View L D
   view_reaching v d = record {
     about = v.about;
-    pages = v.pages;
+    layout = v.layout;
     seats = v.seats;
     held = v.held;
     data_part = Some (record { part = d; out = true });
   }
 
   -- what an actor may do next, with what its seat has
-  pub record MayGo (pages : ℕ) (held : Option (Slot L D)) (stored : Option (Keeping D)) (a : model.Actor) : Type 0 where
-    pub there : OpWords pages (next a)
+  pub record MayGo (layout : Layout) (held : Option (Slot L D)) (stored : Option (Keeping D)) (a : model.Actor) : Type 0 where
+    pub there : OpWords layout (next a)
     pub log : (desk : Desk L) → held ≡ Some (slot.Log desk) → hand a ≡ Some LOG_SLOT → (l : Lent) → Lends l
         (lent a) → LogReady desk.part l (next a)
     pub data_part : (d : Keeping D) → stored ≡ Some d → (l : Lent) → Lends l (lent a) → DataReady d.part l (next a)
@@ -168,7 +169,7 @@ module _ {L D : Type 0} (log_seen : L → Seen) (data_seen : D → Seen) where
     pub shown : Shown m.0.about x.number x.heard x.actor r
     pub filling : shown.turn.filling ≡ f
     pub is : m' ≡ (view_behind m.0 x f r held stored, carried)
-    pub may : MayGo m.0.pages held stored (took (filled x.actor f) r)
+    pub may : MayGo m.0.layout held stored (took (filled x.actor f) r)
 
   -- a step on a word: the number found is the answer
   abbrev pub saw : Me (Slot L D) (View L D) → ℕ → Me (Slot L D) (View L D) → Type 0
@@ -211,4 +212,4 @@ module _ {L D : Type 0} (log_seen : L → Seen) (data_seen : D → Seen) where
 
   -- a look that changes nothing: what the actor may do
   abbrev pub looked : Me (Slot L D) (View L D) → ℕ → Me (Slot L D) (View L D) → Type 0
-  looked m n m' = (m' ≡ m) × ((x : Numbered) → m.0.seats ≡ x ∷ [] → MayGo m.0.pages m.0.held m.0.data_part x.actor)
+  looked m n m' = (m' ≡ m) × ((x : Numbered) → m.0.seats ≡ x ∷ [] → MayGo m.0.layout m.0.held m.0.data_part x.actor)

@@ -19,6 +19,7 @@ use Rattle.redo_drive.specs.Playing.{RunOf, run_log_side}
 use Rattle.redo_drive.specs.Running.{RunsWith}
 use Rattle.redo_drive.specs.Setups.{seated_actors}
 use Rattle.redo_drive.specs.declared.parts.Parts.{Parts}
+use Rattle.redo_words.specs.{shape_layout}
 use Rattle.model_core.specs.Hands.{GivesFailed, hand, IsFreeToCheck}
 use Rattle.redo_rule.specs.Handing.{HaveHandedOn, HaveLoaded, nothing}
 use Rattle.redo_rule.specs.OwnSide.{Beside, desk_with, HasItsWork, SitsAs}
@@ -81,7 +82,7 @@ module _ {L D : Type 0} where
   abbrev pub first_view : About L D → View L D
   first_view about = record {
     about = Some about;
-    pages = about.opened.value.shape.pages;
+    layout = shape_layout about.opened.value.shape;
     seats = first_seats about;
     held = None;
     data_part = Some (record { part = about.opened.value.store; out = false });
@@ -93,7 +94,7 @@ module _ {L D : Type 0} where
   pub record Knows (about : About L D) (parts : Parts L D) (beside : Beside) (actors : List model.Actor) (heard : ℕ → Heard)
       (seat_of : ℕ → ℕ) (keeper : ℕ) (out : Bool) (id : ℕ) (v : View L D) : Type 0 where
     pub told : (i : ℕ) (x : Numbered) → get_elem? v.seats i ≡ some x → v.about ≡ Some about
-    pub pages : (i : ℕ) (x : Numbered) → get_elem? v.seats i ≡ some x → v.pages ≡ parts.words.pages
+    pub layout : (i : ℕ) (x : Numbered) → get_elem? v.seats i ≡ some x → v.layout ≡ parts.words.layout
     pub mine : (i : ℕ) (x : Numbered) → get_elem? v.seats i ≡ some x → (seat_of x.number ≡ id) × (get_elem? actors x.number ≡ some x.actor) × (heard x.number ≡ x.heard)
     pub free : (i : ℕ) (x : Numbered) → get_elem? v.seats i ≡ some x → IsFreeToCheck x.actor
     pub held : (i : ℕ) (x : Numbered) (k : ℕ) → get_elem? v.seats i ≡ some x → hand x.actor ≡ Some k → v.held ≡ Some (slot_content parts beside k)

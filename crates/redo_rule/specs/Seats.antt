@@ -1,6 +1,7 @@
 -- How a seat is cut off the first one, and how it is taken in again.
 use Rattle.std.specs.Prelude.{Bool, List, None, Option, Some, [], cond, false, true, ◌++◌, ◌∷◌}
 use Rattle.model_core.specs.Actors as model
+use Rattle.model_core.specs.declared.words.Layout.{Layout}
 use Rattle.redo_rule.specs.declared.law.Numbered.{Numbered}
 use Rattle.redo_rule.specs.declared.law.View.{View}
 
@@ -25,12 +26,16 @@ abbrev pub first_some : {A : Type 0} → Option A → Option A → Option A
 first_some (Some x) other = Some x
 first_some None other = other
 
+-- the words of a store without pages
+abbrev pub no_pages : Layout
+no_pages = record { pages = 0; page_size = 0 }
+
 module _ {L D : Type 0} where
   -- the first of its actors gets a seat of its own
   abbrev pub cut_left : View L D → View L D
   cut_left v = record {
     about = v.about;
-    pages = v.pages;
+    layout = v.layout;
     seats = rest_numbered v.seats;
     held = v.held;
     data_part =
@@ -40,7 +45,7 @@ module _ {L D : Type 0} where
   abbrev pub cut_right : View L D → View L D
   cut_right v = record {
     about = v.about;
-    pages = v.pages;
+    layout = v.layout;
     seats = first_numbered v.seats;
     held = None;
     data_part =
@@ -51,7 +56,7 @@ module _ {L D : Type 0} where
   abbrev pub taken_in : View L D → View L D → View L D
   taken_in v w = record {
     about = w.about;
-    pages = v.pages;
+    layout = w.layout;
     seats = w.seats ++ v.seats;
     held = None;
     data_part =
@@ -59,4 +64,4 @@ module _ {L D : Type 0} where
   }
 
   abbrev pub spent : View L D
-  spent = record { about = None; pages = 0; seats = []; held = None; data_part = None }
+  spent = record { about = None; layout = no_pages; seats = []; held = None; data_part = None }

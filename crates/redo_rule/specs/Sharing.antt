@@ -4,6 +4,7 @@ use lib.ListN.{get_elem?}
 use mathlib.Core.Option.{some}
 use Rattle.atomic_table.specs.declared.shared.Seat.{Seat}
 use Rattle.model_core.specs.{Given}
+use Rattle.model_core.specs.declared.words.Layout.{Layout}
 use Rattle.redo_drive.specs.Lists.{listing_at, Listings}
 use Rattle.redo_drive.specs.Receiving.{follower_of, HasGot, IsSameFollower}
 use Rattle.redo_drive.specs.declared.actor.Actor.{Actor}
@@ -30,6 +31,11 @@ module _ {L D : Type 0} where
   pub record AreFresh (told : Option (About L D)) (seats : List (Seat (Slot L D) (View L D))) : Type 0 where
     pub knows : (i : ℕ) (seat : Seat (Slot L D) (View L D)) → get_elem? seats i ≡ some seat → seat.me.0.about ≡ told
     pub none : (i : ℕ) (seat : Seat (Slot L D) (View L D)) → get_elem? seats i ≡ some seat → heard_of seat.me.0 ≡ nothing
+
+  -- each of them has these words
+  abbrev pub AreLaidOut : Layout → List (Seat (Slot L D) (View L D)) → Type 0
+  AreLaidOut layout seats = (i : ℕ) (seat : Seat (Slot L D) (View L D)) → get_elem? seats i ≡ some seat
+      → seat.me.0.layout ≡ layout
 
   -- all that has been handed on by the actor of each number, as these seats know it
   abbrev pub heard_by : List (Seat (Slot L D) (View L D)) → ℕ → Heard

@@ -3,6 +3,7 @@ ghost use Rattle.std.specs.Prelude.{◌<◌, ◌≡◌, slice_index};
 ghost use Rattle.std.specs.Slots.{IsFull, slots_items, slots_len};
 ghost use Rattle.model_core.specs.{index};
 ghost use Rattle.redo_rule.specs.Closing.{EndsRun, LeavesTable};
+ghost use Rattle.redo_rule.specs.Seats.{no_pages};
 ghost use Rattle.redo_rule.specs.Cutting.{IsFirst};
 
 use crate::law::{Board, DATA_SLOT, Desk, LOG_SLOT, Seat, Slot};
@@ -14,8 +15,14 @@ use redo_link::tail_of;
 use redo_logdev::LogPart;
 use redo_ownuser::LogWork;
 use redo_store::DataPart;
-use redo_words::{Word, number_of};
+use redo_words::{Layout, Word, number_of};
 use std::alloc::Global;
+
+/// The words of a store without pages.
+const NO_PAGES: Layout = Layout {
+    pages: 0,
+    page_size: 0,
+};
 
 /// What a table leaves but for the history: with the log's work, if users wrote for themselves.
 pub struct Left<L: Sectors, D: Sectors> {
@@ -26,13 +33,13 @@ pub struct Left<L: Sectors, D: Sectors> {
     pub work: Option<LogWork>,
 }
 
-/// What stands in a word.
+/// What stands in a word that is no page's: it has its number in each layout.
 fn word_in<L: Sectors, D: Sectors>(closed: &ClosedTable<Slot<L, D>, Global>, word: Word) -> u64
-    requires there { index word < slots_len closed.now.words }
+    requires there { index no_pages word < slots_len closed.now.words }
     requires full { IsFull closed.now.words }
-    ensures { result ≡ slice_index (slots_items closed.now.words) (index word) }
+    ensures { result ≡ slice_index (slots_items closed.now.words) (index no_pages word) }
 {
-    closed.word(number_of(word) as usize)
+    closed.word(number_of(NO_PAGES, word) as usize)
 }
 
 /// Closes a table, given the seat that knows all actors, of which none holds anything.

@@ -9,6 +9,7 @@ use redo_follow::Tally;
 use redo_logdev::LogPart;
 use redo_ownuser::LogWork;
 use redo_store::{DataPart, Opened};
+use redo_words::Layout;
 use std::alloc::Global;
 use std::collections::LinkedList;
 use std::marker::Model;
@@ -119,12 +120,12 @@ pub struct Keeping<D: Sectors> {
     pub out: bool,
 }
 
-/// What a seat knows: what its table was told, how many pages there are, the states of its actors, what it holds, and
+/// What a seat knows: what its table was told, which words there are, the states of its actors, what it holds, and
 /// the data part. No value of it is made.
 #[derive(Drop)]
 pub struct View<L: Sectors, D: Sectors> {
     pub about: Option<About<L, D>>,
-    pub pages: u32,
+    pub layout: Layout,
     pub seats: LinkedList<Numbered>,
     pub held: Option<Slot<L, D>>,
     pub data_part: Option<Keeping<D>>,

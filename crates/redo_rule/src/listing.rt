@@ -6,21 +6,21 @@ ghost use Rattle.redo_drive.specs.Views.{view_of};
 ghost use Rattle.redo_rule.specs.declared.law.TheConstants.{LOG_TURN};
 ghost use Rattle.redo_rule.specs.Ops.{HasPlayedOp, MayPlay};
 
-use crate::law::{Ring, Seat};
+use crate::law::{LOG_TURN, Ring, Seat};
 use crate::plays::{Gave, SeizedList};
 use crate::slots::{add_slot, oldest_slot, remove_slot};
 use model_core::FLUSH_LISTS;
 use redo_disk::Sectors;
 use redo_drive::Actor;
 use redo_follow::Receiver;
-use redo_words::{Answer, Step, Word, number_of};
+use redo_words::{Answer, Step};
 
 /// The turn word of a flush list, and its slot.
 pub fn list_turn(list: u32) -> usize
     requires { list < FLUSH_LISTS }
     ensures { result ≡ suc LOG_TURN + list }
 {
-    number_of(Word::List(list)) as usize
+    LOG_TURN + 1 + list as usize
 }
 
 /// The slot of a flush list.

@@ -16,24 +16,26 @@ use crate::steps::{add, load, store, swap};
 use redo_disk::{DevError, Sectors};
 use redo_drive::Actor;
 use redo_follow::Receiver;
-use redo_words::{Answer, Op, Step};
+use redo_words::{Answer, Layout, Op, Step};
 
 /// Plays an Op on the words, the log part or a list.
 fn play_token<L: Sectors, D: Sectors, R: Receiver>(
     table: &Ring<L, D>,
     token: &mut Seat<L, D>,
     actor: &mut Actor<R>,
+    layout: Layout,
     op: Op,
 ) -> Step
+    requires layout { token.old.me.0.layout ≡ layout }
     requires may { MayPlay table.now.table_id token.old (view_of actor.old) op }
     requires bare { IsBare op }
     ensures { HasPlayedOp L.seen D.seen R.stands_for table.now.table_id token.old actor.old result token.new actor.new }
 {
     match op {
-        Op::Load(word) => load(table, token, actor, word),
-        Op::Store(word, number) => store(table, token, actor, word, number),
-        Op::Add(word, number) => add(table, token, actor, word, number),
-        Op::Swap(word, old, new) => swap(table, token, actor, word, old, new),
+        Op::Load(word) => load(table, token, actor, layout, word),
+        Op::Store(word, number) => store(table, token, actor, layout, word, number),
+        Op::Add(word, number) => add(table, token, actor, layout, word, number),
+        Op::Swap(word, old, new) => swap(table, token, actor, layout, word, old, new),
         Op::TakeDevice => take_device(table, token, actor),
         Op::GiveDevice => give_device(table, token, actor),
         Op::TakeAdd(page, oldest) => take_add(table, token, actor, page, oldest),
@@ -54,8 +56,10 @@ fn play_next<L: Sectors, D: Sectors, R: Receiver>(
     table: &Ring<L, D>,
     seat: &mut Seat<L, D>,
     actor: &mut Actor<R>,
+    layout: Layout,
     op: Op,
 ) -> Step
+    requires layout { seat.old.me.0.layout ≡ layout }
     requires seat { IsSeatOf table.now.table_id seat.old (view_of actor.old) }
     requires asks { next (view_of actor.old) ≡ op }
     ensures seat { IsSeatOf table.now.table_id seat.new (view_of actor.new) }
@@ -67,18 +71,20 @@ fn play_next<L: Sectors, D: Sectors, R: Receiver>(
         Op::Rest => actor.took(Answer::Rested),
         // without its archive an append has no memory
         Op::Append(_) => append(table, seat, actor, Some(DevError::NoMemory)),
-        _ => play_token(table, seat, actor, op),
+        _ => play_token(table, seat, actor, layout, op),
     }
 }
 
 /// Plays the Op that the actor asks for whose state is the seat's view, and tells how its step ended. It doesn't wait, and takes
-/// no memory. An append of the archiver is played by `append`; here it fails for want of memory.
+/// no memory. The words are numbered by the seat's layout. An append of the archiver is played by `append`; here it fails for want of memory.
 pub fn play<L: Sectors, D: Sectors, R: Receiver>(
     table: &Ring<L, D>,
     seat: &mut Seat<L, D>,
     actor: &mut Actor<R>,
+    layout: Layout,
     op: Op,
 ) -> Step
+    requires layout { seat.old.me.0.layout ≡ layout }
     requires seat { IsSeatOf table.now.table_id seat.old (view_of actor.old) }
     requires asks { next (view_of actor.old) ≡ op }
     ensures seat { IsSeatOf table.now.table_id seat.new (view_of actor.new) }
@@ -86,5 +92,5 @@ pub fn play<L: Sectors, D: Sectors, R: Receiver>(
     ensures played { HasGone L.seen D.seen seat.old.me.0 (view_of actor.old) result (view_of actor.new) }
     ensures ends { EndsSo L.seen D.seen seat.old.me.0 (view_of actor.old) result (view_of actor.new) }
 {
-    play_next(table, seat, actor, op)
+    play_next(table, seat, actor, layout, op)
 }
