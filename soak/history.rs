@@ -22,7 +22,7 @@ use crate::program::{Call, words_of};
 use crate::report::Report;
 use crate::restoring::Reading;
 use crate::script::{Line, MOST_BYTES, group_length, misfit};
-use crate::shape::{DEFAULT_SHAPE, SLOTS, Shape};
+use crate::shape::{DEFAULT_SHAPE, EARLY_SLOTS, MOST_EARLY_PAGES, SLOTS, Shape};
 use crate::since::{Run, Since};
 use crate::tally::Tally;
 use crate::tears::{Cut, draw_junk};
@@ -544,7 +544,7 @@ impl<'a> History<'a> {
             _ => events,
         };
         self.count(fate);
-        self.count_run(&report, &options);
+        self.count_run(&store.shape, &report, &options);
         let stage = stage_of(&events[..moment.min(events.len())], is_older);
         self.tally.openings += u64::from(stage != Stage::Running);
         self.tally.in_migrations += u64::from(stage == Stage::Migrating);
@@ -626,8 +626,10 @@ impl<'a> History<'a> {
         self.tally.unbegun += u64::from(*archiving == Archiving::Unbegun);
     }
 
-    fn count_run(&mut self, report: &Report, options: &Options) {
+    fn count_run(&mut self, shape: &Shape, report: &Report, options: &Options) {
         self.tally.groups += report.entries.len() as u64;
+        self.tally.early += u64::from(shape.slots == EARLY_SLOTS);
+        self.tally.large += u64::from(shape.pages > MOST_EARLY_PAGES);
         self.tally.threads += u64::from(options.threads);
         self.tally.followed += u64::from(options.followers > 0);
         self.tally.stops += u64::from(report.tells_failure());

@@ -9,6 +9,9 @@ pub struct Tally {
     /// Groups that a run reserved and a cut or a kill took.
     pub dropped: u64,
     pub threads: u64,
+    /// Runs on stores of format 1 or 2, and of more pages than such have.
+    pub early: u64,
+    pub large: u64,
     /// Runs with followers.
     pub followed: u64,
     /// Runs that wrote to an archive, those of them in threads, of users that write for themselves, that were cut or killed,
@@ -48,6 +51,8 @@ impl Tally {
         self.groups += other.groups;
         self.dropped += other.dropped;
         self.threads += other.threads;
+        self.early += other.early;
+        self.large += other.large;
         self.followed += other.followed;
         self.archived += other.archived;
         self.archived_threads += other.archived_threads;
