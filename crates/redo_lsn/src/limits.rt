@@ -1,19 +1,26 @@
 // Which shapes a store may have.
 ghost use Rattle.std.specs.Prelude.{◌≡◌, ◌↔◌, ◌||◌, IsTrue};
-ghost use Rattle.model_base.specs.{has_early_sizes, has_sizes, is_within_limits, IsWithinLimits};
+ghost use Rattle.model_base.specs.{has_early_sizes, has_sizes, is_page_size, is_within_limits, IsWithinLimits};
 ghost use Rattle.model_log.specs.{has_sizes_of};
 
 use model_base::{
-    EARLY_SLOTS, MAX_EARLY_PAGES, MAX_LOG_BLOCKS, MAX_PAGES, MIN_LOG_BLOCKS, PAGE_SIZE, SLOTS,
-    Shape,
+    EARLY_SLOTS, LARGE_PAGE_SIZE, MAX_EARLY_PAGES, MAX_LOG_BLOCKS, MAX_PAGES, MIN_LOG_BLOCKS,
+    PAGE_SIZE, SLOTS, Shape,
 };
 use model_log::Format;
+
+/// Whether a page may have so many bytes.
+fn is_page_size(bytes: u32) -> bool
+    ensures { result ≡ is_page_size bytes }
+{
+    bytes == PAGE_SIZE || bytes == LARGE_PAGE_SIZE
+}
 
 /// Whether these are the sizes of a store as one is made.
 fn has_sizes(shape: &Shape) -> bool
     ensures { result ≡ has_sizes shape.now }
 {
-    shape.page_size == PAGE_SIZE && shape.pages <= MAX_PAGES && shape.slots == SLOTS
+    is_page_size(shape.page_size) && shape.pages <= MAX_PAGES && shape.slots == SLOTS
 }
 
 /// Whether they are those of a store of format 1 or 2.
