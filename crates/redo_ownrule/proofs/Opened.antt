@@ -39,6 +39,8 @@ use Rattle.redo_ownrule.specs.declared.player.Player.{Player}
 use Rattle.redo_ownrule.specs.declared.shared.Shared.{Shared}
 use Rattle.redo_ownrule.specs.declared.staffing.Staff.{Staff}
 use Rattle.redo_rule.proofs.Opens as opens
+use Rattle.redo_words.specs.{shape_layout}
+use Rattle.model_core.specs.declared.words.Layout.{Layout}
 use Rattle.redo_rule.specs.Cutting.{IsFirst}
 use Rattle.redo_rule.specs.OwnSide.{HasItsWork}
 use Rattle.redo_rule.specs.Ruled.{first_view, none_heard, numbered, own_numbered, Ruled, starts_about}
@@ -137,22 +139,25 @@ module _ {L D R : Type 0} (log_seen : L → Seen) (data_seen : D → Seen) (stan
   -- NO PLAYER HAS ITS SEAT YET
   module _ (shared : Shared L D R) (key : shared.board.shared.key ≡ about)
       (of : shared.first.table_id ≡ shared.board.shared.table_id) (slots : shared.board.shared.table_id.slots ≡ 6)
-      (words : shared.board.shared.table_id.words ≡ word_count start.parts.words.pages)
-      (me : shared.first.me ≡ (first_view about, [])) (no_entries : shared.entries.items ≡ [])
+      (words : shared.board.shared.table_id.words ≡ word_count start.parts.words.layout)
+      (me : shared.first.me ≡ (first_view about, []))
+      (laid : ◌≡◌ {A = Layout} shared.layout (shape_layout about.opened.value.shape)) (no_entries : shared.entries.items ≡ [])
       (room : length about.script.value ≤ vec_capacity shared.entries) (room_is : shared.actors ≡ staff.room)
       (has_room : IsSome shared.seats)
       (fits : IfSome shared.seats (λ v. (v.items ≡ []) × (length ps ≤ vec_capacity v))) where
     view : shared.first.me.0 ≡ first_view about
     view = ap (λ (m : Me (Slot L D) (View L D)). m.0) me
 
-    pages_are : about.opened.value.shape.pages ≡ start.parts.words.pages
-    pages_are = ap (λ (z : Shape). z.pages) (sym B.is_run.shape) ∙ B.from.runs.its_pages ∙ sym B.from.runs.word_pages
+    layout_is : ◌≡◌ {A = Layout} (shape_layout about.opened.value.shape) start.parts.words.layout
+    layout_is = ap shape_layout (sym B.is_run.shape)
+        ∙ opens.same_layout B.run.shape B.run.setup B.from.runs.its_pages B.from.runs.its_page_size
+        ∙ sym B.from.runs.running.layout_is
 
     first_is : IsFirst shared.board.shared.table_id shared.first
     first_is = record {
       of = of;
       slots = slots;
-      words = words ∙ ap word_count (sym pages_are ∙ sym (ap (λ (v : View L D). v.pages) view));
+      words = words ∙ ap word_count (sym layout_is ∙ sym (ap (λ (v : View L D). v.layout) view));
       none = ap (λ (m : Me (Slot L D) (View L D)). m.1) me;
       empty = ap (λ (v : View L D). v.held) view;
       rest = λ i y e.
@@ -213,6 +218,7 @@ module _ {L D R : Type 0} (log_seen : L → Seen) (data_seen : D → Seen) (stan
           (B.is_run.log_only_is ∙ sym (ap (λ (z : About L D). z.log_only) key) ∙ alone)
           (place about.own_writes ps i) a (placed_at i a at) is;
       first = first_is;
+      layout = ap (λ (v : View L D). v.layout) view ∙ sym laid;
       told = ap (λ (v : View L D). v.about) view ∙ ap Some (sym key);
       all = ap (λ (v : View L D). v.seats) view ∙ first_is_seated
           ∙ ap (λ (b : Bool). seated (place b ps) none_heard 0 ps) (sym own_same);

@@ -10,6 +10,7 @@ use Rattle.model_core.proofs.Lists.{set_again}
 use Rattle.model_core.specs.{OnWord, word_found, words_after}
 use Rattle.model_core.specs.Actors as model
 use Rattle.model_core.specs.Hands.{hand, IsFreeToCheck}
+use Rattle.model_core.specs.declared.words.Layout.{Layout}
 use Rattle.model_core.specs.declared.ops.Answer.{Answer}
 use Rattle.model_core.specs.declared.ops.Answer.TheVariants as answer
 use Rattle.model_core.specs.declared.ops.Op.{Op}
@@ -106,9 +107,9 @@ module _ {L D : Type 0} (log_seen : L → Seen) (log_gives : L → Call → L �
     user_free = subst IsFreeToCheck its.state
         (kept.is_free log_seen log_gives data_seen data_gives about s R id me.0 x one at)
 
-    pub its_sum : HoldsSum (own_next o Work) R.parts.words.words
-    its_sum = ops.own_sum o Work serves_hand R.parts.words.words
-        (holds_sum (lists_of R.parts.lists) (is_some R.parts.log.failed) 0 0 R.parts.words.words (model.User o.user)
+    pub its_sum : HoldsSum R.parts.words.layout (own_next o Work) R.parts.words.words
+    its_sum = ops.own_sum o Work serves_hand R.parts.words.layout R.parts.words.words
+        (holds_sum R.parts.words.layout (lists_of R.parts.lists) (is_some R.parts.log.failed) 0 0 R.parts.words.words (model.User o.user)
         ((may.as_user log_seen data_seen R.run R.parts
         (turns.seats log_seen log_gives data_seen data_gives about s R id me.0 x one at o its)
         (turns.before log_seen log_gives data_seen data_gives about s R id me.0 x one at o its) x.number o
@@ -144,9 +145,9 @@ module _ {L D : Type 0} (log_seen : L → Seen) (log_gives : L → Call → L �
       let f : ◌≡◌ {A = List (View L D)} (slice_set s.views id me.0) s.views = set_again s.views id me.0 at in
       let seats = turns.seats log_seen log_gives data_seen data_gives about s R id me.0 x one at o its in
       let W : LogWork = Work s R at in
-      let go : OwnMayGo me.0.pages me.0.held o W = may.may_go log_seen data_seen R.run R.parts seats
+      let go : OwnMayGo me.0.layout me.0.held o W = may.may_go log_seen data_seen R.run R.parts seats
       (turns.before log_seen log_gives data_seen data_gives about s R id me.0 x one at o its) x.number o
-      (turns.there log_seen log_gives data_seen data_gives about s R id me.0 x one at o its) me.0.pages me.0.held
+      (turns.there log_seen log_gives data_seen data_gives about s R id me.0 x one at o its) me.0.layout me.0.held
       (turns.count log_seen log_gives data_seen data_gives about s R id me.0 x one at o its)
       (λ desk is has. kept.same_log desk (desk_with R.parts.log R.beside)
       (kept.same_slot (slot.Log desk) (slot.Log (desk_with R.parts.log R.beside)) (sym is
@@ -159,9 +160,9 @@ module _ {L D : Type 0} (log_seen : L → Seen) (log_gives : L → Call → L �
         (
           refl,
           of_own (λ (y : Numbered) (p : OwnUser). ErrandFits p.user p.errand
-              × ((k : LogWork) → HasWork me.0.held p k → OwnMayGo me.0.pages me.0.held p k)) (
+              × ((k : LogWork) → HasWork me.0.held p k → OwnMayGo me.0.layout me.0.held p k)) (
                 go.stands,
-                λ k has. ops.any_work o W k me.0.pages me.0.held go
+                λ k has. ops.any_work o W k me.0.layout me.0.held go
                     (λ with. turns.the_work log_seen log_gives data_seen data_gives about s R id me.0 x one at o its k has with),
               ),
         ),
@@ -170,8 +171,9 @@ module _ {L D : Type 0} (log_seen : L → Seen) (log_gives : L → Call → L �
   -- A STEP ON A WORD
   module _ (a : Op) (i : ℕ) (f : ℕ → ℕ) (asks : (k : LogWork) → HasWork me.0.held o k → own_next o k ≡ a) (on : OnWord a)
       (off : (k : ℕ) → k < 5 → 7 + k ≢ i)
-      (words : (ws : List ℕ) → HoldsSum a ws → slice_set ws i (f (slice_index ws i)) ≡ words_after a ws)
-      (found : (ws : List ℕ) → word_found a ws ≡ slice_index ws i) where
+      (words : (ws : List ℕ) → HoldsSum me.0.layout a ws
+      → slice_set ws i (f (slice_index ws i)) ≡ words_after me.0.layout a ws)
+      (found : (ws : List ℕ) → word_found me.0.layout a ws ≡ slice_index ws i) where
     module _ (s : State (Slot L D) (View L D)) (R : Law s) (at : get_elem? s.views id ≡ maybe.some me.0) where
       abbrev n : ℕ
       n = slice_index s.words i
@@ -184,7 +186,7 @@ module _ {L D : Type 0} (log_seen : L → Seen) (log_gives : L → Call → L �
 
       abbrev new : Parts L D
       new = record {
-        words = record { pages = R.parts.words.pages; words = slice_set s.words i (f n) };
+        words = record { layout = R.parts.words.layout; words = slice_set s.words i (f n) };
         log = R.parts.log;
         store = R.parts.store;
         lists = R.parts.lists;
@@ -193,16 +195,22 @@ module _ {L D : Type 0} (log_seen : L → Seen) (log_gives : L → Call → L �
       abbrev same : HasSamePages R.parts new
       same = record { words = refl; lists = refl }
 
+      layout_is : me.0.layout ≡ R.parts.words.layout
+      layout_is = turns.count log_seen log_gives data_seen data_gives about s R id me.0 x one at o its
+
       its_op : own_next o W ≡ a
       its_op = asks W (turns.has_it log_seen log_gives data_seen data_gives about s R id me.0 x one at o its)
 
       pub done : IsPlayed log_seen data_seen R.run (own_next o W) (own_lends o W) R.parts r new
       done = subst (λ (p : Op). IsPlayed log_seen data_seen R.run p (own_lends o W) R.parts r new) (sym its_op)
-          (played.word_played log_seen data_seen R.run (own_lends o W) R.parts a new.words r on
-          (words s.words (subst (λ (ws : List ℕ). HoldsSum a ws) R.words_are
-          (subst (λ (p : Op). HoldsSum p R.parts.words.words) its_op (its_sum s R at)))
-          ∙ ap (words_after a) (sym R.words_are))
-          (ap answer.Old (sym (found s.words) ∙ ap (word_found a) (sym R.words_are))))
+          (played.word_played log_seen data_seen R.run (own_lends o W) R.parts a new.words r on refl
+          (words s.words (subst (λ (l : Layout). HoldsSum l a s.words) (sym layout_is)
+          (subst (λ (ws : List ℕ). HoldsSum R.parts.words.layout a ws) R.words_are
+          (subst (λ (p : Op). HoldsSum R.parts.words.layout p R.parts.words.words) its_op (its_sum s R at))))
+          ∙ ap (λ (l : Layout). words_after l a s.words) layout_is
+          ∙ ap (words_after R.parts.words.layout a) (sym R.words_are))
+          (ap answer.Old (sym (found s.words) ∙ ap (λ (l : Layout). word_found l a s.words) layout_is
+          ∙ ap (word_found R.parts.words.layout a) (sym R.words_are))))
 
       abbrev then : OwnUser
       then = (own_goes_on o W r).0

@@ -52,8 +52,8 @@ module _ {L D : Type 0} (log_seen : L → Seen) (data_seen : D → Seen) (table 
   pub held_is : token.me.0.held ≡ I.held
   held_is = ap (λ (w : View L D). w.held) view_is
 
-  go : OwnMayGo token.me.0.pages token.me.0.held then left
-  go = subst (λ (w : View L D). OwnMayGo w.pages w.held then left) (sym view_is) I.stepped.may
+  go : OwnMayGo token.me.0.layout token.me.0.held then left
+  go = subst (λ (w : View L D). OwnMayGo w.layout w.held then left) (sym view_is) I.stepped.may
 
   number_is : I.who.number ≡ number_of v
   number_is = sym (ap number_in I.was)
@@ -62,6 +62,7 @@ module _ {L D : Type 0} (log_seen : L → Seen) (data_seen : D → Seen) (table 
   keeps_seat = record {
     about = ap (λ (w : View L D). w.about) view_is;
     number = ap (λ (w : View L D). number_in w.seats) view_is ∙ number_is;
+    layout = ap (λ (w : View L D). w.layout) view_is;
     heard = ap (λ (w : View L D). heard_in w.seats) view_is ∙ sym (ap heard_in I.was);
     data_part = ap (λ (w : View L D). w.data_part) view_is;
   }
@@ -82,14 +83,14 @@ module _ {L D : Type 0} (log_seen : L → Seen) (data_seen : D → Seen) (table 
   mine_with carried carries only = record {
     of = I.of;
     slots = I.slots;
-    words = I.words ∙ ap word_count (sym (ap (λ (w : View L D). w.pages) view_is));
+    words = I.words ∙ ap word_count (sym (ap (λ (w : View L D). w.layout) view_is));
     who = own_behind I.who then;
     one = ap (λ (w : View L D). w.seats) view_is;
     own = record { state = refl; errand = refl };
     carries = carries;
     stands = I.stepped.may.stands;
     free = own_free o I.work r I.stands;
-    may = λ j has. ops.any_work then left j token.me.0.pages token.me.0.held go (only j has);
+    may = λ j has. ops.any_work then left j token.me.0.layout token.me.0.held go (only j has);
   }
 
 -- without the log's work in hand

@@ -94,7 +94,7 @@ module _ {L D : Type 0} (log_seen : L → Seen) (log_gives : L → Call → L �
 
       abbrev new : Parts L D
       new = record {
-        words = record { pages = R.parts.words.pages; words = ws };
+        words = record { layout = R.parts.words.layout; words = ws };
         log = q.part;
         store = R.parts.store;
         lists = R.parts.lists;
@@ -141,7 +141,7 @@ module _ {L D : Type 0} (log_seen : L → Seen) (log_gives : L → Call → L �
       done_by = subst (λ (z : Op). IsPlayed log_seen data_seen R.run z (own_lends o W) R.parts (answer_by q z) new)
           (sym its_op)
           (played.log_played log_seen data_seen R.run (own_lends o W) R.parts a new (answer_by q a)
-          (words_same ∙ sym R.words_are) refl a refl (calls_log a is_call) refl its_served refl)
+          refl (words_same ∙ sym R.words_are) refl a refl (calls_log a is_call) refl its_served refl)
 
       abbrev then : OwnUser
       then = (own_goes_on o W r).0

@@ -91,7 +91,7 @@ module _ {L D : Type 0} (log_seen : L → Seen) (data_seen : D → Seen) (v : Vi
       ap (λ (b : Bool). cond b (op.Load word.Failed) (errand_op o k o.errand)) checks in (
         asks,
         ap old_of (s.turn.answered
-            ∙ ap (answer_of (lists_of s.old.lists) (is_some s.old.log.failed) s.turn.code s.new.log.marks.stable
+            ∙ ap (answer_of s.old.words.layout (lists_of s.old.lists) (is_some s.old.log.failed) s.turn.code s.new.log.marks.stable
             s.old.words.words)
             (ap (λ (z : OwnUser). own_next z s.seats.work) same ∙ ap (own_next o) s.work ∙ asks)),
       )

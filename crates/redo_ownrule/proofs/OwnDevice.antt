@@ -191,7 +191,7 @@ module _ {L D : Type 0} {table : TableId} {seat : Seat (Slot L D) (View L D)} {o
     its_give : own_next o d.1 ≡ op.GiveDevice
     its_give = asks d.1 (has_w give_has)
 
-    go_give : OwnMayGo seat.me.0.pages seat.me.0.held o d.1
+    go_give : OwnMayGo seat.me.0.layout seat.me.0.held o d.1
     go_give = mine.may d.1 (has_w give_has)
 
     abbrev q : Answer
@@ -279,7 +279,7 @@ module _ {L D : Type 0} {table : TableId} {seat : Seat (Slot L D) (View L D)} {o
     pub its_call : own_next o c.1 ≡ a
     its_call = asks c.1 (has_w call_has)
 
-    pub go_call : OwnMayGo seat.me.0.pages seat.me.0.held o c.1
+    pub go_call : OwnMayGo seat.me.0.layout seat.me.0.held o c.1
     go_call = mine.may c.1 (has_w call_has)
 
     pub ready : (l : Lent) → Lends l (own_lends o c.1) → LogReady c.0.part l a

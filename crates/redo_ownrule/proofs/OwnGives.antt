@@ -70,7 +70,7 @@ module _ {L D : Type 0} (log_seen : L → Seen) (log_gives : L → Call → L �
 
     abbrev new : Parts L D
     new = record {
-      words = record { pages = R.parts.words.pages; words = ws };
+      words = record { layout = R.parts.words.layout; words = ws };
       log = R.parts.log;
       store = R.parts.store;
       lists = R.parts.lists;
@@ -178,7 +178,7 @@ module _ {L D : Type 0} (log_seen : L → Seen) (log_gives : L → Call → L �
         ∙ turns.has_desk log_seen log_gives data_seen data_gives about s R id me.0 x one at o its part.0)) in
         let now : Parts L D = new op.GiveDevice 0 slot_left asks (omega arith) carried s R at in
         let plays : (l : model.Lent) → IsPlayed log_seen data_seen R.run op.GiveDevice l R.parts q now =
-        λ l. played.gave_device log_seen data_seen R.run l R.parts op.GiveDevice refl now.words q refl
+        λ l. played.gave_device log_seen data_seen R.run l R.parts op.GiveDevice refl now.words q refl refl
         (ap (λ (y : List ℕ). slice_set y 7 0) (sym R.words_are)) in
         let behind : Beside = beside op.GiveDevice 0 slot_left asks (omega arith) carried s R at plays in
         let none_now = hands.work_holds o w part.0 fit in
@@ -235,6 +235,7 @@ module _ {L D : Type 0} (log_seen : L → Seen) (log_gives : L → Call → L �
         data_served = played.untouched (run_data_side log_seen data_seen R.run) R.parts.store R.parts.store l (op.GiveList i) 0
             tt refl;
         own_served = tt;
+        layout = refl;
         words = ap (λ (y : List ℕ). slice_set y (7 + suc i) 0) (sym R.words_are)
             ∙ ap (λ (n : ℕ). slice_set R.parts.words.words n 0) word;
         lists = refl;

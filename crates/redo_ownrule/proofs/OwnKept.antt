@@ -202,6 +202,7 @@ module _ {L D : Type 0} (log_seen : L → Seen) (log_gives : L → Call → L �
       code = played.code;
       log_served = played.log_served;
       data_served = played.data_served;
+      layout = played.layout;
       words = played.words;
       lists = played.lists;
       answered = played.answered;

@@ -110,6 +110,7 @@ same_seat {L} {D} {R} stands v w p o x is keeps =
     subst (λ (q : Player R). IsSameSeat stands v (actor_of q) w (own.User x.user)) (sym is) (record {
       about = keeps.about;
       number = keeps.number;
+      layout = keeps.layout;
       same = tt;
       since = [];
       heard = ap (λ (h : Heard). h.groups) keeps.heard ∙ sym (append-nil (heard_of v).groups);

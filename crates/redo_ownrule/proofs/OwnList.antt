@@ -212,7 +212,7 @@ module _ {L D : Type 0} {table : TableId} {seat : Seat (Slot L D) (View L D)} {o
         (stepping.list_there mine (ap has_work home_give.errand))
 
     pub give_below : j < 4
-    give_below = subst (OpWords seat.me.0.pages) (stepping.its_op mine (op.GiveList j) asks)
+    give_below = subst (OpWords seat.me.0.layout) (stepping.its_op mine (op.GiveList j) asks)
         (stepping.go mine).there
 
     pub give_list_ok : (log_seen : L → Seen) (log_gives : L → Call → L → Type 0) (data_seen : D → Seen)

@@ -127,7 +127,7 @@ module _ {L D : Type 0} (log_seen : L → Seen) (log_gives : L → Call → L �
 
       abbrev new : Parts L D
       new = record {
-        words = record { pages = R.parts.words.pages; words = ws };
+        words = record { layout = R.parts.words.layout; words = ws };
         log = R.parts.log;
         store = R.parts.store;
         lists = added R.parts.lists p y;
@@ -143,7 +143,7 @@ module _ {L D : Type 0} (log_seen : L → Seen) (log_gives : L → Call → L �
       plays =
           let f = eq-eqb (slice_index R.parts.words.words (8 + i)) 0 is_free in
           played.took_add log_seen data_seen R.run (own_lends o W) R.parts new r (record { log = refl; data_part = refl })
-          (op.TakeAdd p y) p y refl words_by
+          refl (op.TakeAdd p y) p y refl words_by
           (add_left R.parts.lists new.lists (list_word R.parts.words.words) p y R.lists_are
           (sym (ap (λ (b : Bool). cond b (added R.parts.lists p y) R.parts.lists) f)))
           (sym (ap (λ (b : Bool). cond b (answer.Taken None) answer.Held) f))
@@ -256,7 +256,7 @@ module _ {L D : Type 0} (log_seen : L → Seen) (log_gives : L → Call → L �
     module _ (busy : slice_index s.words (8 + i) ≢ 0) where
       abbrev new_held : Parts L D
       new_held = record {
-        words = record { pages = R.parts.words.pages; words = ws };
+        words = record { layout = R.parts.words.layout; words = ws };
         log = R.parts.log;
         store = R.parts.store;
         lists = R.parts.lists;
@@ -272,7 +272,7 @@ module _ {L D : Type 0} (log_seen : L → Seen) (log_gives : L → Call → L �
       plays_held =
           let f = ne_eqb (slice_index R.parts.words.words (8 + i)) 0 is_busy in
           played.took_add log_seen data_seen R.run (own_lends o W) R.parts new_held answer.Held
-          (record { log = refl; data_part = refl }) (op.TakeAdd p y) p y refl words_by
+          (record { log = refl; data_part = refl }) refl (op.TakeAdd p y) p y refl words_by
           (add_left R.parts.lists new_held.lists (list_word R.parts.words.words) p y R.lists_are
           (sym (ap (λ (b : Bool). cond b (added R.parts.lists p y) R.parts.lists) f)))
           (sym (ap (λ (b : Bool). cond b (answer.Taken None) answer.Held) f))

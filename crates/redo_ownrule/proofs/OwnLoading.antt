@@ -6,11 +6,12 @@ use mathlib.Core.Option.{some}
 use Rattle.model_core.specs.Actors as model
 use Rattle.model_core.specs.DataSide.{DataSide}
 use Rattle.model_core.specs.LogSide.{LogSide}
+use Rattle.model_core.specs.declared.words.Layout.{Layout}
 use Rattle.model_core.specs.declared.ops.Op.{Op}
 use Rattle.model_core.specs.declared.ops.Op.TheVariants as op
 use Rattle.model_core.specs.declared.ops.Step.{Step}
 use Rattle.model_core.specs.declared.words.Word.TheVariants as word
-use Rattle.model_core.specs.{Entry, flat, flusher_op, next, OpWords, shared_left, SharedWords, words_left, writer_op}
+use Rattle.model_core.specs.{Entry, flat, flusher_op, layout_of, next, OpWords, shared_left, SharedWords, words_left, writer_op}
 use Rattle.model_own.specs.OwnWrites.{errand_op, LogWork, OwnUser}
 use Rattle.model_own.specs.declared.errand.ErrandStep.{ErrandStep}
 use Rattle.model_own.specs.declared.errand.ErrandStep.TheVariants as errand_step
@@ -50,15 +51,16 @@ module _ {L D : Type 0} {archive : Bool} (log_seen : L → Seen) (data_seen : D 
     m = before.runs.running.shared
 
     abbrev Up : Op → Type 0
-    Up o = slice_index old.words.words 3 ≤ slice_index (words_left old.words.words o) 3
+    Up o = slice_index old.words.words 3 ≤ slice_index (words_left old.words.layout old.words.words o) 3
 
     -- by what an Op leaves of FLUSHED
-    up_by : (o : Op) → OpWords run.setup.pages o → m.flushed ≤ (shared_left m o).flushed → Up o
+    up_by : (o : Op) → OpWords (layout_of run.setup) o → m.flushed ≤ (shared_left m o).flushed → Up o
     up_by o there rise =
         let W = before.runs.running in
-        let words : ◌≡◌ {A = List ℕ} (words_left old.words.words o) (flat (shared_left m o)) =
-        ap (λ (ws : List ℕ). words_left ws o) W.flat_is ∙ flat_left run.setup.pages m W.both.logged.sized o there in
-        let now : slice_index (words_left old.words.words o) 3 ≡ (shared_left m o).flushed =
+        let words : ◌≡◌ {A = List ℕ} (words_left old.words.layout old.words.words o) (flat (shared_left m o)) =
+        ap (λ (ws : List ℕ). words_left old.words.layout ws o) W.flat_is
+        ∙ ap (λ (l : Layout). words_left l (flat m) o) W.layout_is ∙ flat_left (layout_of run.setup) m W.both.logged.sized o there in
+        let now : slice_index (words_left old.words.layout old.words.words o) 3 ≡ (shared_left m o).flushed =
         ap (λ (ws : List ℕ). slice_index ws 3) words in
         let was : slice_index old.words.words 3 ≡ m.flushed = ap (λ (ws : List ℕ). slice_index ws 3) W.flat_is in
         omega arith

@@ -8,6 +8,7 @@ use Rattle.model_core.proofs.TurnWords.{advance_asks}
 use Rattle.model_core.specs.AnswerFits.{AnswerFits}
 use Rattle.model_core.specs.DataSide.{DataSide}
 use Rattle.model_core.specs.LogSide.{LogSide}
+use Rattle.model_core.specs.declared.words.Layout.{Layout}
 use Rattle.model_core.specs.declared.ops.Answer.{Answer}
 use Rattle.model_core.specs.declared.ops.Op.{Op}
 use Rattle.model_core.specs.declared.ops.Op.TheVariants as op
@@ -104,10 +105,10 @@ module _ {L D : Type 0} {archive : Bool} (log_seen : L → Seen) (data_seen : D 
   as_user = may_at log_seen data_seen run parts seats R n (model.User o.user)
       (user_there seats.users seats.work seats.others n o at) (others_append_not (model.User o.user) tt)
 
-  pub its_words : OpWords parts.words.pages (own_next o seats.work)
+  pub its_words : OpWords parts.words.layout (own_next o seats.work)
   its_words =
       let W = R.runs.running in
-      subst (λ (m : ℕ). OpWords m (own_next o seats.work)) (sym R.runs.word_pages)
+      subst (λ (m : Layout). OpWords m (own_next o seats.work)) (sym W.layout_is)
       (own_words A (its_log_laws log_seen data_seen run) B (its_data_laws log_seen data_seen run) run.setup W.shared
       (lists_of parts.lists) parts.log parts.store seats.users seats.work seats.others
       (W.log_ghost, W.page_ghost, W.both) R.errands n o at 0 parts.log parts.store)
@@ -126,13 +127,13 @@ module _ {L D : Type 0} {archive : Bool} (log_seen : L → Seen) (data_seen : D 
       by false has = none o.errand has
 
   abbrev answer_to : Op → Answer
-  answer_to = answer_of (lists_of parts.lists) (is_some parts.log.failed) 0 0 parts.words.words
+  answer_to = answer_of parts.words.layout (lists_of parts.lists) (is_some parts.log.failed) 0 0 parts.words.words
 
-  pub may_go : (pages : ℕ) (held : Option (Slot L D)) → pages ≡ parts.words.pages
+  pub may_go : (layout : Layout) (held : Option (Slot L D)) → layout ≡ parts.words.layout
       → ((desk : Desk L) → held ≡ Some (slot.Log desk) → has_work o.errand ≡ true
       → ◌≡◌ {A = log.Part L} desk.part parts.log)
-      → OwnMayGo pages held o seats.work
-  may_go pages held count with_log = record {
+      → OwnMayGo layout held o seats.work
+  may_go layout held count with_log = record {
     stands = serves.stands;
     goes_on = serves.goes_on;
     in_hand = its_hand;
@@ -141,7 +142,7 @@ module _ {L D : Type 0} {archive : Bool} (log_seen : L → Seen) (data_seen : D 
     rest = λ e. subst (λ (z : Op). AnswerFits (model.User o.user) (answer_to z))
         (own_rests o seats.work its_hand e) (as_user.fits 0 0);
     give = λ e. subst (λ (z : Op). OwnAnswerFits o seats.work (answer_to z)) e (serves.fits 0 0);
-    there = subst (λ (m : ℕ). OpWords m (own_next o seats.work)) (sym count) its_words;
+    there = subst (λ (m : Layout). OpWords m (own_next o seats.work)) (sym count) its_words;
     log = λ desk is has l lends. subst (λ (q : log.Part L). LogReady q l (own_next o seats.work))
         (sym (with_log desk is has)) ((serves.playable l lends).log);
   }

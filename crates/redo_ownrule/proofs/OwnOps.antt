@@ -4,6 +4,7 @@ use Rattle.model_core.proofs.TurnWords.{advance_asks, IsWordOp}
 use Rattle.model_core.specs.{FlusherState, flusher_op, flusher_took, next, old_of, user_op, UserState, writer_op, writer_took, WriterState}
 use Rattle.model_core.specs.Actors as model
 use Rattle.model_core.specs.Advancing.{advance_op}
+use Rattle.model_core.specs.declared.words.Layout.{Layout}
 use Rattle.model_core.specs.declared.ops.Answer.{Answer}
 use Rattle.model_core.specs.declared.ops.Answer.TheVariants as answer
 use Rattle.model_core.specs.declared.ops.Op.{Op}
@@ -266,27 +267,27 @@ module _ (o : OwnUser) (k : LogWork) (hold : WorkInHand o.errand k) where
       by false errand_step.Flush is on e = is
 
   -- the sum of an Add stays within a word
-  plain_sum : (a : Op) (words : List ℕ) → IsWriterOp a → HoldsSum a words
-  plain_sum (op.Add w x) words is = absurd is
-  plain_sum _ words is = tt
+  plain_sum : (layout : Layout) (a : Op) (words : List ℕ) → IsWriterOp a → HoldsSum layout a words
+  plain_sum layout (op.Add w x) words is = absurd is
+  plain_sum layout _ words is = tt
 
-  flush_sum : (a : Op) (words : List ℕ) → IsFlusherOp a → HoldsSum a words
-  flush_sum (op.Add w x) words is = absurd is
-  flush_sum _ words is = tt
+  flush_sum : (layout : Layout) (a : Op) (words : List ℕ) → IsFlusherOp a → HoldsSum layout a words
+  flush_sum layout (op.Add w x) words is = absurd is
+  flush_sum layout _ words is = tt
 
-  pub own_sum : (words : List ℕ) → HoldsSum (next (model.User o.user)) words → HoldsSum (own_next o k) words
-  own_sum words sum = by o.user.checks o.errand refl hold
+  pub own_sum : (layout : Layout) (words : List ℕ) → HoldsSum layout (next (model.User o.user)) words → HoldsSum layout (own_next o k) words
+  own_sum layout words sum = by o.user.checks o.errand refl hold
     where
-      by : (b : Bool) (x : ErrandStep) → o.user.checks ≡ b → WorkInHand x k → HoldsSum (asked b x) words
+      by : (b : Bool) (x : ErrandStep) → o.user.checks ≡ b → WorkInHand x k → HoldsSum layout (asked b x) words
       by true x c on = tt
-      by false errand_step.Done c on = subst (λ (b : Bool). HoldsSum (cond b (op.Load word.Failed)
+      by false errand_step.Done c on = subst (λ (b : Bool). HoldsSum layout (cond b (op.Load word.Failed)
           (user_op o.user o.user.step)) words) c sum
       by false errand_step.TakeDevice c on = tt
       by false errand_step.GiveBroken c on = tt
       by false errand_step.Write c on =
-          plain_sum (writer_op k.writer k.writer.step) words (writer_ops k.writer k.writer.step on)
+          plain_sum layout (writer_op k.writer k.writer.step) words (writer_ops k.writer k.writer.step on)
       by false errand_step.Flush c on =
-          flush_sum (flusher_op k.flusher k.flusher.step) words (flusher_ops k.flusher k.flusher.step on)
+          flush_sum layout (flusher_op k.flusher k.flusher.step) words (flusher_ops k.flusher k.flusher.step on)
 
   -- with the log's work in hand it doesn't check, and the flusher doesn't look whether there is work
   pub no_check : has_work o.errand ≡ true → ErrandFits o.user o.errand → o.user.checks ≡ false
@@ -302,7 +303,7 @@ module _ (o : OwnUser) (k : LogWork) (hold : WorkInHand o.errand k) where
   no_look looks is = subst FlusherInHand looks (subst (λ (x : ErrandStep). WorkInHand x k) is hold)
 
 -- with no work in hand it may do the same whatever the work is
-module _ {L D : Type 0} (o : OwnUser) (k j : LogWork) (pages : ℕ) (held : Option (Slot L D)) where
+module _ {L D : Type 0} (o : OwnUser) (k j : LogWork) (layout : Layout) (held : Option (Slot L D)) where
   any_next : has_work o.errand ≡ false → own_next o k ≡ own_next o j
   any_next none = by o.user.checks o.errand none
     where
@@ -313,7 +314,7 @@ module _ {L D : Type 0} (o : OwnUser) (k j : LogWork) (pages : ℕ) (held : Opti
       by false errand_step.TakeDevice none = refl
       by false _ none = absurd (cc)
 
-  aside : has_work o.errand ≡ false → OwnMayGo pages held o k → OwnMayGo pages held o j
+  aside : has_work o.errand ≡ false → OwnMayGo layout held o k → OwnMayGo layout held o j
   aside none go =
       let same = any_next none in record {
         stands = go.stands;
@@ -322,7 +323,7 @@ module _ {L D : Type 0} (o : OwnUser) (k j : LogWork) (pages : ℕ) (held : Opti
         done = go.done;
         rest = λ e. go.rest (same ∙ e);
         give = λ e. fits o.user.checks o.errand none (go.give (same ∙ e));
-        there = subst (OpWords pages) same go.there;
+        there = subst (OpWords layout) same go.there;
         log = λ desk is has. let z : true ≡ false = sym has ∙ none in absurd (cc);
       }
     where
@@ -344,9 +345,9 @@ module _ {L D : Type 0} (o : OwnUser) (k j : LogWork) (pages : ℕ) (held : Opti
       fits false errand_step.TakeDevice none fit = fit
       fits false _ none fit = absurd (cc)
 
-  pub any_work : OwnMayGo pages held o k → (has_work o.errand ≡ true → j ≡ k) → OwnMayGo pages held o j
+  pub any_work : OwnMayGo layout held o k → (has_work o.errand ≡ true → j ≡ k) → OwnMayGo layout held o j
   any_work go same = by (has_work o.errand) refl
     where
-      by : (b : Bool) → has_work o.errand ≡ b → OwnMayGo pages held o j
-      by true has = subst (λ (z : LogWork). OwnMayGo pages held o z) (sym (same has)) go
+      by : (b : Bool) → has_work o.errand ≡ b → OwnMayGo layout held o j
+      by true has = subst (λ (z : LogWork). OwnMayGo layout held o z) (sym (same has)) go
       by false none = aside none go

@@ -95,16 +95,16 @@ module _ {L D : Type 0} {table : TableId} {seat : Seat (Slot L D) (View L D)} {o
         λ has. let z : true ≡ false = sym has ∙ none in absurd (cc),
       )
 
-  pub go : OwnMayGo seat.me.0.pages seat.me.0.held o some_work.0
+  pub go : OwnMayGo seat.me.0.layout seat.me.0.held o some_work.0
   go = mine.may some_work.0 some_work.1
 
   module _ (a : Op) (asks : OwnAsks seat.me.0 o a) where
     pub its_op : own_next o some_work.0 ≡ a
     its_op = asks some_work.0 some_work.1
 
-    pub word_below : (w : Word) → (OpWords seat.me.0.pages a → IsWord seat.me.0.pages w) → index w < table.words
-    word_below w names = subst (λ (n : ℕ). index w < n) (sym mine.words)
-        (index_below seat.me.0.pages w (names (subst (OpWords seat.me.0.pages) its_op go.there)))
+    pub word_below : (w : Word) → (OpWords seat.me.0.layout a → IsWord seat.me.0.layout w) → index seat.me.0.layout w < table.words
+    word_below w names = subst (λ (n : ℕ). index seat.me.0.layout w < n) (sym mine.words)
+        (index_below seat.me.0.layout w (names (subst (OpWords seat.me.0.layout) its_op go.there)))
 
     off_turns : IsOffTurns a
     off_turns = subst IsOffTurns its_op (own_off o some_work.0 go.goes_on)
@@ -115,8 +115,8 @@ module _ {L D : Type 0} {table : TableId} {seat : Seat (Slot L D) (View L D)} {o
       Asks i f then = (seat.table_id ≡ table) × (i < table.words)
           × Allows (Ruled log_seen log_gives data_seen data_gives about) table.slots seat.id seat.me i f then
 
-      at_word : (w : Word) (i : ℕ) (f : ℕ → ℕ) → (OpWords seat.me.0.pages a → IsWord seat.me.0.pages w) → i ≡ index w
-          → Allows (Ruled log_seen log_gives data_seen data_gives about) table.slots seat.id seat.me (index w) f
+      at_word : (w : Word) (i : ℕ) (f : ℕ → ℕ) → (OpWords seat.me.0.layout a → IsWord seat.me.0.layout w) → i ≡ index seat.me.0.layout w
+          → Allows (Ruled log_seen log_gives data_seen data_gives about) table.slots seat.id seat.me (index seat.me.0.layout w) f
           (own_saw log_seen data_seen seat.me)
           → Asks i f (own_saw log_seen data_seen seat.me)
       at_word w i f names e allows = (
@@ -128,39 +128,39 @@ module _ {L D : Type 0} {table : TableId} {seat : Seat (Slot L D) (View L D)} {o
 
   module _ (log_seen : L → Seen) (log_gives : L → Call → L → Type 0) (data_seen : D → Seen)
       (data_gives : D → Call → D → Type 0) (about : About L D) where
-    pub load_ok : (w : Word) (i : ℕ) (asks : OwnAsks seat.me.0 o (op.Load w)) → i ≡ index w
+    pub load_ok : (w : Word) (i : ℕ) (asks : OwnAsks seat.me.0 o (op.Load w)) → i ≡ index seat.me.0.layout w
         → Asks (op.Load w) asks log_seen log_gives data_seen data_gives about i (λ n. n) (own_saw log_seen data_seen seat.me)
     load_ok w i asks e = at_word (op.Load w) asks log_seen log_gives data_seen data_gives about w i (λ n. n) (λ z. z) e
         (own_word log_seen log_gives data_seen data_gives about table.slots seat.id seat.me mine.who mine.one o mine.own
-        (op.Load w) (index w) (λ n. n) asks tt (plain_off w (off_turns (op.Load w) asks))
-        (λ ws _. set-get_or ws (index w) 0) (λ ws. refl))
+        (op.Load w) (index seat.me.0.layout w) (λ n. n) asks tt (plain_off seat.me.0.layout w (off_turns (op.Load w) asks))
+        (λ ws _. set-get_or ws (index seat.me.0.layout w) 0) (λ ws. refl))
 
-    pub store_ok : (w : Word) (x i : ℕ) (asks : OwnAsks seat.me.0 o (op.Store w x)) → i ≡ index w
+    pub store_ok : (w : Word) (x i : ℕ) (asks : OwnAsks seat.me.0 o (op.Store w x)) → i ≡ index seat.me.0.layout w
         → Asks (op.Store w x) asks log_seen log_gives data_seen data_gives about i (λ _. x)
         (own_saw log_seen data_seen seat.me)
     store_ok w x i asks e = at_word (op.Store w x) asks log_seen log_gives data_seen data_gives about w i (λ _. x) (λ z. z)
         e (own_word log_seen log_gives data_seen data_gives about table.slots seat.id seat.me mine.who mine.one o mine.own
-        (op.Store w x) (index w) (λ _. x) asks tt (plain_off w (off_turns (op.Store w x) asks))
+        (op.Store w x) (index seat.me.0.layout w) (λ _. x) asks tt (plain_off seat.me.0.layout w (off_turns (op.Store w x) asks))
         (λ ws _. refl) (λ ws. refl))
 
-    pub add_ok : (w : Word) (x i : ℕ) (asks : OwnAsks seat.me.0 o (op.Add w x)) → i ≡ index w
+    pub add_ok : (w : Word) (x i : ℕ) (asks : OwnAsks seat.me.0 o (op.Add w x)) → i ≡ index seat.me.0.layout w
         → Asks (op.Add w x) asks log_seen log_gives data_seen data_gives about i (λ n. (n + x) % 2 ^ 64)
         (own_saw log_seen data_seen seat.me)
     add_ok w x i asks e = at_word (op.Add w x) asks log_seen log_gives data_seen data_gives about w i
         (λ n. (n + x) % 2 ^ 64) (λ z. z) e
         (own_word log_seen log_gives data_seen data_gives about table.slots seat.id seat.me mine.who mine.one o mine.own
-        (op.Add w x) (index w) (λ n. (n + x) % 2 ^ 64) asks tt (plain_off w (off_turns (op.Add w x) asks))
-        (λ ws sum. ap (slice_set ws (index w)) (let e : (slice_index ws (index w) + x) % 2 ^ 64 ≡ slice_index ws (index w) + x
+        (op.Add w x) (index seat.me.0.layout w) (λ n. (n + x) % 2 ^ 64) asks tt (plain_off seat.me.0.layout w (off_turns (op.Add w x) asks))
+        (λ ws sum. ap (slice_set ws (index seat.me.0.layout w)) (let e : (slice_index ws (index seat.me.0.layout w) + x) % 2 ^ 64 ≡ slice_index ws (index seat.me.0.layout w) + x
         = omega arith in e)) (λ ws. refl))
 
-    pub swap_ok : (w : Word) (x y i : ℕ) (asks : OwnAsks seat.me.0 o (op.Swap w x y)) → i ≡ index w
+    pub swap_ok : (w : Word) (x y i : ℕ) (asks : OwnAsks seat.me.0 o (op.Swap w x y)) → i ≡ index seat.me.0.layout w
         → Asks (op.Swap w x y) asks log_seen log_gives data_seen data_gives about i (λ n. either (n == x) y n)
         (own_saw log_seen data_seen seat.me)
     swap_ok w x y i asks e = at_word (op.Swap w x y) asks log_seen log_gives data_seen data_gives about w i
         (λ n. either (n == x) y n) (λ z. z) e
         (own_word log_seen log_gives data_seen data_gives about table.slots seat.id seat.me mine.who mine.one o mine.own
-        (op.Swap w x y) (index w) (λ n. either (eqb n x) y n) asks tt (plain_off w (off_turns (op.Swap w x y) asks))
-        (λ ws _. swapped ws (index w) x y) (λ ws. refl))
+        (op.Swap w x y) (index seat.me.0.layout w) (λ n. either (eqb n x) y n) asks tt (plain_off seat.me.0.layout w (off_turns (op.Swap w x y) asks))
+        (λ ws _. swapped ws (index seat.me.0.layout w) x y) (λ ws. refl))
 
   module _ (log_seen : L → Seen) (data_seen : D → Seen) (after : Seat (Slot L D) (View L D))
       (same : after.table_id ≡ seat.table_id) where

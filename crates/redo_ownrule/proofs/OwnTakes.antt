@@ -79,7 +79,7 @@ module _ {L D : Type 0} (log_seen : L → Seen) (log_gives : L → Call → L �
 
     abbrev new : Parts L D
     new = record {
-      words = record { pages = R.parts.words.pages; words = ws };
+      words = record { layout = R.parts.words.layout; words = ws };
       log = R.parts.log;
       store = R.parts.store;
       lists = R.parts.lists;
@@ -112,7 +112,7 @@ module _ {L D : Type 0} (log_seen : L → Seen) (log_gives : L → Call → L �
         → IsPlayed log_seen data_seen R.run (own_next o W) (own_lends o W) R.parts r new
     played_as r is = subst (λ (p : Op). IsPlayed log_seen data_seen R.run p (own_lends o W) R.parts r new) (sym its_op)
         (played.took_device log_seen data_seen R.run (own_lends o W) R.parts new r (record { log = refl; data_part = refl })
-        op.TakeDevice refl swapped_words refl (λ code mark. is))
+        refl op.TakeDevice refl swapped_words refl (λ code mark. is))
 
     -- free
     module _ (free : slice_index s.words 7 ≡ 0) where

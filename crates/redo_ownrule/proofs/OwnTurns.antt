@@ -80,7 +80,7 @@ module _ {L D : Type 0} (log_seen : L → Seen) (log_gives : L → Call → L �
   pub first : get_elem? v.seats 0 ≡ maybe.some x
   first = kept.first log_seen log_gives data_seen data_gives about s R id v x one at
 
-  pub count : v.pages ≡ R.parts.words.pages
+  pub count : v.layout ≡ R.parts.words.layout
   count = kept.count log_seen log_gives data_seen data_gives about s R id v x one at
 
   pub here : get_elem? R.actors x.number ≡ maybe.some (model.User o.user)
@@ -283,7 +283,7 @@ module _ {L D : Type 0} (log_seen : L → Seen) (log_gives : L → Call → L �
             played block;
       };
       is = refl;
-      may = may.may_go log_seen data_seen R.run new after runs_behind x.number then then_there v.pages held
+      may = may.may_go log_seen data_seen R.run new after runs_behind x.number then then_there v.layout held
           (count ∙ sym same.words) with_log;
     }
 

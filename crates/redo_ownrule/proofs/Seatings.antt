@@ -174,7 +174,7 @@ module _ {L D R : Type 0} where
       (sym (ap heard_in S.mine.one) ∙ heard))
 
   seat_table : (table : TableId) (seat : Seat (Slot L D) (View L D)) (p : Player R) → IsPlayerSeat table seat p
-      → (seat.table_id ≡ table) × (table.words ≡ word_count seat.me.0.pages) × IsHome seat.me.0
+      → (seat.table_id ≡ table) × (table.words ≡ word_count seat.me.0.layout) × IsHome seat.me.0
   seat_table table seat (player.Plain a) S = (S.mine.of, S.mine.words, S.home)
   seat_table table seat (player.Own o) S = (S.mine.of, S.mine.words, S.home)
 
@@ -315,16 +315,13 @@ module _ {L D R : Type 0} where
       free : IsAtRest last
       free = rest (length before) last last_at
 
-      same_count : (p q : ℕ) → word_count p ≡ word_count q → p ≡ q
-      same_count p q e = omega arith
-
       pub may_take_in : MayTakeIn table first seat
       may_take_in =
           let t = seat_table table seat last own_seat in
           let x : Numbered = numbered_as (number (length before)) (heard (length before)) last in
           record {
             of = t.0;
-            pages = same_count first.me.0.pages seat.me.0.pages (sym A.is_first.words ∙ t.1);
+            words = t.1;
             none = seat_bare table seat last own_seat free;
             some = (x, ap (λ (l : List Numbered). get_elem? l 0) view_is);
             rest = λ i y e. subst (λ (z : Numbered). HoldsNothing z.actor × HasNoWork z.errand)
@@ -484,7 +481,7 @@ module _ {L D R : Type 0} (table : TableId) (first : Seat (Slot L D) (View L D))
       }) o) (sym told.0) (record {
         of = same ∙ of;
         slots = F.slots;
-        words = F.words ∙ ap word_count (sym (ap (λ (m : Me (Slot L D) (View L D)). m.0.pages) me_is));
+        words = F.words ∙ ap word_count (sym (ap (λ (m : Me (Slot L D) (View L D)). m.0.layout) me_is));
         who = x;
         one = one;
         own = its;

@@ -38,24 +38,25 @@ module _ {L D : Type 0} where
 pub record OwnMine {L D : Type 0} (table : TableId) (seat : Seat (Slot L D) (View L D)) (o : OwnUser) : Type 0 where
   pub of : seat.table_id ≡ table
   pub slots : table.slots ≡ SLOTS
-  pub words : table.words ≡ word_count seat.me.0.pages
+  pub words : table.words ≡ word_count seat.me.0.layout
   pub who : Numbered
   pub one : seat.me.0.seats ≡ who ∷ []
   pub own : IsOwn who o
   pub carries : CarriesWork (has_work o.errand) (model.User o.user) seat.me
   pub stands : ErrandFits o.user o.errand
   pub free : IsFreeToCheck (model.User o.user)
-  pub may : (k : LogWork) → HasWork seat.me.0.held o k → OwnMayGo seat.me.0.pages seat.me.0.held o k
+  pub may : (k : LogWork) → HasWork seat.me.0.held o k → OwnMayGo seat.me.0.layout seat.me.0.held o k
 
 -- it has nothing to do with the data part
 pub record IsOwnSeat {L D : Type 0} (table : TableId) (seat : Seat (Slot L D) (View L D)) (o : OwnUser) : Type 0 where
   pub mine : OwnMine table seat o
   pub home : IsHome seat.me.0
 
--- its seat later: what it knows of its table and of the data part, its number, and what it has heard stay
+-- its seat later: what it knows of its table, of its words and of the data part, its number, and what it has heard stay
 pub record KeepsOwnSeat {L D : Type 0} (v w : View L D) : Type 0 where
   pub about : w.about ≡ v.about
   pub number : number_of w ≡ number_of v
+  pub layout : w.layout ≡ v.layout
   pub heard : heard_of w ≡ heard_of v
   pub data_part : w.data_part ≡ v.data_part
 
@@ -64,7 +65,7 @@ pub record HasStepped {L D : Type 0} (log_seen : L → Seen) (data_seen : D → 
     (token : Seat (Slot L D) (View L D)) (o : OwnUser) (r : Answer) : Type 0 where
   pub of : token.table_id ≡ table
   pub slots : table.slots ≡ SLOTS
-  pub words : table.words ≡ word_count v.pages
+  pub words : table.words ≡ word_count v.layout
   pub who : Numbered
   pub was : v.seats ≡ who ∷ []
   pub stands : ErrandFits o.user o.errand

@@ -8,6 +8,7 @@ use Rattle.model_core.specs.{OpWords, user_op}
 use Rattle.model_core.specs.Actors as model
 use Rattle.model_core.specs.AnswerFits.{AnswerFits}
 use Rattle.model_core.specs.Hands.{GivesFailed}
+use Rattle.model_core.specs.declared.words.Layout.{Layout}
 use Rattle.model_core.specs.declared.ops.Op.TheVariants as op
 use Rattle.model_core.specs.declared.steps.FlusherStep.{FlusherStep}
 use Rattle.model_core.specs.declared.steps.FlusherStep.TheVariants as flusher_step
@@ -99,21 +100,21 @@ module _ {L D : Type 0} where
   abbrev pub own_view : View L D → Numbered → OwnUser → Option (Slot L D) → View L D
   own_view v x o held = record {
     about = v.about;
-    pages = v.pages;
+    layout = v.layout;
     seats = own_behind x o ∷ [];
     held = held;
     data_part = v.data_part;
   }
 
   -- What a user may do next, with the log's work so far: it may ask, and its call may be made of the part that it has.
-  pub record OwnMayGo (pages : ℕ) (held : Option (Slot L D)) (o : OwnUser) (k : LogWork) : Type 0 where
+  pub record OwnMayGo (layout : Layout) (held : Option (Slot L D)) (o : OwnUser) (k : LogWork) : Type 0 where
     pub stands : ErrandFits o.user o.errand
     pub goes_on : WorkGoesOn o.errand k
     pub in_hand : WorkInHand o.errand k
     pub done : o.user.step ≡ user_step.Done → o.user.k ≡ length o.user.lines
     pub rest : own_next o k ≡ op.Rest → AnswerFits (model.User o.user) answer.Rested
     pub give : own_next o k ≡ op.GiveDevice → OwnAnswerFits o k (answer.Taken None)
-    pub there : OpWords pages (own_next o k)
+    pub there : OpWords layout (own_next o k)
     pub log : (desk : Desk L) → held ≡ Some (slot.Log desk) → has_work o.errand ≡ true → (l : Lent)
         → Lends l (own_lends o k) → LogReady desk.part l (own_next o k)
 
@@ -155,7 +156,7 @@ module _ {L D : Type 0} (log_seen : L → Seen) (data_seen : D → Seen) where
     pub fits : OwnAnswerFits o k r
     pub shown : OwnShown v.about x.number o k r
     pub is : m' ≡ (own_view v x (own_goes_on o k r).0 held, carried)
-    pub may : OwnMayGo v.pages held (own_goes_on o k r).0 (own_goes_on o k r).1
+    pub may : OwnMayGo v.layout held (own_goes_on o k r).0 (own_goes_on o k r).1
 
   -- A step on a word: the number found is the answer. The change of the log's work in its hand is to follow.
   abbrev pub own_saw : Me (Slot L D) (View L D) → ℕ → Me (Slot L D) (View L D) → Type 0
@@ -198,4 +199,4 @@ module _ {L D : Type 0} (log_seen : L → Seen) (data_seen : D → Seen) where
   abbrev pub own_looked : Me (Slot L D) (View L D) → ℕ → Me (Slot L D) (View L D) → Type 0
   own_looked m n m' = (m' ≡ m) × ((x : Numbered) (o : OwnUser) → m.0.seats ≡ x ∷ [] → IsOwn x o
       → ErrandFits o.user o.errand
-      × ((k : LogWork) → HasWork m.0.held o k → OwnMayGo m.0.pages m.0.held o k))
+      × ((k : LogWork) → HasWork m.0.held o k → OwnMayGo m.0.layout m.0.held o k))

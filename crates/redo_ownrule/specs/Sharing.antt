@@ -80,6 +80,7 @@ module _ {L D R : Type 0} where
         → get_elem? (views_of (map actor_of players)) i ≡ some a → IsCleaner a → ⊥
     pub first : IsFirst (table_of shared) shared.first
     pub told : shared.first.me.0.about ≡ Some shared.board.shared.key
+    pub layout : shared.first.me.0.layout ≡ shared.layout
     pub all : shared.first.me.0.seats ≡ seated (place (own_of shared) players) none_heard 0 players
     pub part : HasPart shared.first.me.0
     pub has_room : IsSome shared.seats

@@ -55,6 +55,7 @@ impl<L: Sectors, D: Sectors, R: Receiver + Drop> Shared<L, D, R> {
         let Shared {
             board,
             mut first,
+            layout: _,
             seats: _,
             actors: room,
             entries,

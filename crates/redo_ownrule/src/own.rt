@@ -11,7 +11,7 @@ use crate::steps::{add, load, store, swap};
 use redo_disk::Sectors;
 use redo_ownuser::OwnUser;
 use redo_rule::{LOG_SLOT, Ring, Seat};
-use redo_words::{Op, Step};
+use redo_words::{Layout, Op, Step};
 
 /// The Op that a user asks for: its own, or one of the log's work, if that is in its hand.
 pub(crate) fn ask_own<L: Sectors, D: Sectors>(
@@ -36,8 +36,10 @@ fn play_next<L: Sectors, D: Sectors>(
     table: &Ring<L, D>,
     seat: &mut Seat<L, D>,
     user: &mut OwnUser,
+    layout: Layout,
     op: Op,
 ) -> Step
+    requires layout { seat.old.me.0.layout ≡ layout }
     requires seat { IsOwnSeat table.now.table_id seat.old user.old }
     requires asks { OwnAsks seat.old.me.0 user.old op }
     ensures seat { IsOwnSeat table.now.table_id seat.new user.new }
@@ -45,10 +47,10 @@ fn play_next<L: Sectors, D: Sectors>(
     ensures played { OwnHasGone L.seen D.seen seat.old.me.0 user.old result user.new }
 {
     match op {
-        Op::Load(word) => load(table, seat, user, word),
-        Op::Store(word, number) => store(table, seat, user, word, number),
-        Op::Add(word, number) => add(table, seat, user, word, number),
-        Op::Swap(word, old, new) => swap(table, seat, user, word, old, new),
+        Op::Load(word) => load(table, seat, user, layout, word),
+        Op::Store(word, number) => store(table, seat, user, layout, word, number),
+        Op::Add(word, number) => add(table, seat, user, layout, word, number),
+        Op::Swap(word, old, new) => swap(table, seat, user, layout, word, old, new),
         Op::TakeDevice => take_device(table, seat, user),
         Op::GiveDevice => give_device(table, seat, user),
         Op::TakeAdd(page, oldest) => take_add(table, seat, user, page, oldest),
@@ -71,8 +73,10 @@ pub(crate) fn play_own<L: Sectors, D: Sectors>(
     table: &Ring<L, D>,
     seat: &mut Seat<L, D>,
     user: &mut OwnUser,
+    layout: Layout,
     op: Op,
 ) -> Step
+    requires layout { seat.old.me.0.layout ≡ layout }
     requires seat { IsOwnSeat table.now.table_id seat.old user.old }
     requires asks { OwnAsks seat.old.me.0 user.old op }
     ensures seat { IsOwnSeat table.now.table_id seat.new user.new }
@@ -80,5 +84,5 @@ pub(crate) fn play_own<L: Sectors, D: Sectors>(
     ensures played { OwnHasGone L.seen D.seen seat.old.me.0 user.old result user.new }
     ensures ends { OwnEndsSo L.seen D.seen seat.old.me.0 user.old result user.new }
 {
-    play_next(table, seat, user, op)
+    play_next(table, seat, user, layout, op)
 }

@@ -11,7 +11,7 @@ use redo_drive::Actor;
 use redo_follow::Receiver;
 use redo_ownuser::OwnUser;
 use redo_rule::{Ring, Seat, holds_nothing};
-use redo_words::{Op, Step};
+use redo_words::{Layout, Op, Step};
 
 /// Who plays at a table: an actor by its own program, or a user that writes for itself.
 #[derive(Drop)]
@@ -48,13 +48,16 @@ pub fn ask<L: Sectors, D: Sectors, R: Receiver>(
     }
 }
 
-/// Plays the Op that a player asks for in its seat, and tells how its step ended. It doesn't wait, and takes no memory.
+/// Plays the Op that a player asks for in its seat, and tells how its step ended. The words
+/// are numbered by the seat's layout. It doesn't wait, and takes no memory.
 pub fn play<L: Sectors, D: Sectors, R: Receiver>(
     table: &Ring<L, D>,
     seat: &mut Seat<L, D>,
     player: &mut Player<R>,
+    layout: Layout,
     op: Op,
 ) -> Step
+    requires layout { seat.old.me.0.layout ≡ layout }
     requires seat { IsPlayerSeat table.now.table_id seat.old player.old }
     requires asks { PlayerAsks seat.old.me.0 player.old op }
     ensures seat { IsPlayerSeat table.now.table_id seat.new player.new }
@@ -64,7 +67,7 @@ pub fn play<L: Sectors, D: Sectors, R: Receiver>(
     ensures ends { PlayerEndsSo L.seen D.seen seat.old.me.0 player.old result player.new }
 {
     match player {
-        Player::Plain(actor) => redo_rule::play(table, seat, actor, op),
-        Player::Own(user) => play_own(table, seat, user, op),
+        Player::Plain(actor) => redo_rule::play(table, seat, actor, layout, op),
+        Player::Own(user) => play_own(table, seat, user, layout, op),
     }
 }

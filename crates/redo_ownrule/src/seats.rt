@@ -12,7 +12,7 @@ ghost use Rattle.redo_rule.specs.Gathering.{HasOneCleaner, PartIsKept};
 ghost use Rattle.redo_rule.specs.Ruled.{none_heard};
 ghost use Rattle.redo_rule.specs.Seating.{HasPart, IsCleaner};
 ghost use Rattle.redo_rule.specs.Seats.{cut_left, cut_right};
-ghost use Rattle.redo_rule.specs.Sharing.{AreFresh, heard_by};
+ghost use Rattle.redo_rule.specs.Sharing.{AreFresh, AreLaidOut, heard_by};
 
 use crate::player::Player;
 use crate::plays::OwnLooked;
@@ -61,6 +61,7 @@ fn cut_all<L: Sectors, D: Sectors, R: Receiver>(
     ensures all { length result.items ≡ length players.now }
     ensures part { PartIsKept (length players.now) (views_of (map actor_of players.now)) first.new }
     ensures fresh { AreFresh first.old.me.0.about result.items }
+    ensures layout { AreLaidOut first.old.me.0.layout result.items }
 {
     while seats.len() < players.len() {
         let seat = cut_one(table, first, &players[seats.len()]);
@@ -98,6 +99,7 @@ impl<L: Sectors, D: Sectors, R: Receiver + Drop> Shared<L, D, R> {
         ensures same { self.new.board ≡ self.old.board }
         ensures seats { AreSeatsOf (table_of self.new) (own_of self.new) result.items players.now }
         ensures fresh { AreFresh (Some self.new.board.shared.key) result.items }
+        ensures layout { (self.new.layout ≡ self.old.layout) × AreLaidOut self.new.layout result.items }
     {
         let Some(room) = self.seats.take() else {
             unreachable!()

@@ -13,6 +13,7 @@ use redo_follow::{Follower, Receiver};
 use redo_lsn::NoMemory;
 use redo_rule::{About, Board, Ring, Seat, lay_out, make_board, parts_in};
 use redo_store::Opened;
+use redo_words::Layout;
 use std::alloc::Global;
 use std::snapshot::Snapshot;
 
@@ -21,6 +22,8 @@ pub struct Shared<L: Sectors, D: Sectors, R: Receiver> {
     pub(crate) board: Board<L, D>,
     // the seat of all players that have none of their own
     pub(crate) first: Seat<L, D>,
+    // which words there are
+    pub(crate) layout: Layout,
     // room for a seat of each player, until they have theirs
     pub(crate) seats: Option<Vec<Seat<L, D>>>,
     // room for the actors that the run leaves
@@ -47,6 +50,10 @@ impl<L: Sectors, D: Sectors, R: Receiver + Drop> Shared<L, D, R> {
         ensures err { IfErr result (λ error. (error.1 ≡ opened.log.dev) × (error.2 ≡ opened.store.dev)) }
         ensures new { IfOk result (λ made. IsNewlyShared opened script.now log_only own_writes archive followers.items made.0 made.1.items) }
     {
+        let layout = Layout {
+            pages: opened.shape.pages,
+            page_size: opened.shape.page_size,
+        };
         let opened_is = Snapshot::of(&opened);
         let count = followers.len() as u64;
         let Beginning {
@@ -85,6 +92,7 @@ impl<L: Sectors, D: Sectors, R: Receiver + Drop> Shared<L, D, R> {
                     let shared = Shared {
                         board,
                         first,
+                        layout,
                         seats: Some(seats),
                         actors: room,
                         entries,
@@ -97,6 +105,13 @@ impl<L: Sectors, D: Sectors, R: Receiver + Drop> Shared<L, D, R> {
                 }
             },
         }
+    }
+
+    /// Which words there are: each seat has them so.
+    pub fn layout(&self) -> Layout
+        ensures { result ≡ self.now.layout }
+    {
+        self.layout
     }
 
     /// The words and slots, which threads may be lent.

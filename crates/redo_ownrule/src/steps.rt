@@ -11,7 +11,7 @@ use crate::plays::OwnSaw;
 use redo_disk::Sectors;
 use redo_ownuser::OwnUser;
 use redo_rule::{Ring, Seat};
-use redo_words::{Answer, Step, Word, number_of};
+use redo_words::{Answer, Layout, Step, Word, number_of};
 
 /// The number found is the answer.
 fn saw<L: Sectors, D: Sectors>(
@@ -38,12 +38,14 @@ pub(crate) fn load<L: Sectors, D: Sectors>(
     table: &Ring<L, D>,
     token: &mut Seat<L, D>,
     user: &mut OwnUser,
+    layout: Layout,
     word: Word,
 ) -> Step
-    requires { OwnMayPlay table.now.table_id token.old user.old (op.Load word) }
+    requires may { OwnMayPlay table.now.table_id token.old user.old (op.Load word) }
+    requires layout { token.old.me.0.layout ≡ layout }
     ensures { OwnHasPlayedOp L.seen D.seen table.now.table_id token.old user.old result token.new user.new }
 {
-    let n = table.load::<OwnSaw>(token, number_of(word) as usize);
+    let n = table.load::<OwnSaw>(token, number_of(layout, word) as usize);
     saw(table, token, user, n)
 }
 
@@ -52,13 +54,15 @@ pub(crate) fn store<L: Sectors, D: Sectors>(
     table: &Ring<L, D>,
     token: &mut Seat<L, D>,
     user: &mut OwnUser,
+    layout: Layout,
     word: Word,
     number: u64,
 ) -> Step
-    requires { OwnMayPlay table.now.table_id token.old user.old (op.Store word number) }
+    requires may { OwnMayPlay table.now.table_id token.old user.old (op.Store word number) }
+    requires layout { token.old.me.0.layout ≡ layout }
     ensures { OwnHasPlayedOp L.seen D.seen table.now.table_id token.old user.old result token.new user.new }
 {
-    let n = table.swap::<OwnSaw>(token, number_of(word) as usize, number);
+    let n = table.swap::<OwnSaw>(token, number_of(layout, word) as usize, number);
     saw(table, token, user, n)
 }
 
@@ -67,13 +71,15 @@ pub(crate) fn add<L: Sectors, D: Sectors>(
     table: &Ring<L, D>,
     token: &mut Seat<L, D>,
     user: &mut OwnUser,
+    layout: Layout,
     word: Word,
     number: u64,
 ) -> Step
-    requires { OwnMayPlay table.now.table_id token.old user.old (op.Add word number) }
+    requires may { OwnMayPlay table.now.table_id token.old user.old (op.Add word number) }
+    requires layout { token.old.me.0.layout ≡ layout }
     ensures { OwnHasPlayedOp L.seen D.seen table.now.table_id token.old user.old result token.new user.new }
 {
-    let n = table.fetch_add::<OwnSaw>(token, number_of(word) as usize, number);
+    let n = table.fetch_add::<OwnSaw>(token, number_of(layout, word) as usize, number);
     saw(table, token, user, n)
 }
 
@@ -82,13 +88,15 @@ pub(crate) fn swap<L: Sectors, D: Sectors>(
     table: &Ring<L, D>,
     token: &mut Seat<L, D>,
     user: &mut OwnUser,
+    layout: Layout,
     word: Word,
     old: u64,
     new: u64,
 ) -> Step
-    requires { OwnMayPlay table.now.table_id token.old user.old (op.Swap word old new) }
+    requires may { OwnMayPlay table.now.table_id token.old user.old (op.Swap word old new) }
+    requires layout { token.old.me.0.layout ≡ layout }
     ensures { OwnHasPlayedOp L.seen D.seen table.now.table_id token.old user.old result token.new user.new }
 {
-    let n = table.compare_exchange::<OwnSaw>(token, number_of(word) as usize, old, new);
+    let n = table.compare_exchange::<OwnSaw>(token, number_of(layout, word) as usize, old, new);
     saw(table, token, user, n)
 }

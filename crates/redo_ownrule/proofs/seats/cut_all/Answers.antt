@@ -3,7 +3,7 @@ use Rattle.atomic_table.specs.declared.shared.Seat.{Seat}
 use Rattle.redo_ownrule.proofs.Seatings.{cut_next, cut_part, head, none_heard_yet, one_place, players_at, views}
 use Rattle.redo_ownrule.specs.Gathering.{AreHandedOut}
 use Rattle.redo_ownrule.specs.Players.{place}
-use Rattle.redo_rule.proofs.Gathered.{none_know, one_knows}
+use Rattle.redo_rule.proofs.Gathered.{none_know, none_laid, one_knows, one_laid}
 use Rattle.redo_rule.specs.Gathering.{PartIsKept}
 use Rattle.redo_rule.specs.Ruled.{none_heard}
 use Rattle.redo_rule.specs.declared.law.Slot.{Slot}
@@ -18,6 +18,8 @@ loop-first-init g c = record {
   few = (let a = c.requires.apart in a.1.few);
   same = refl;
   told = none_know _ _ c.requires.none;
+  layout = refl;
+  laid = none_laid _ _ c.requires.none;
 }
 
 pub cut_one-seat-requires-clause-head : goal.cut_one-seat-requires-clause-head
@@ -61,6 +63,9 @@ loop-first-preserved g c =
       same = ap (λ (v : View _ _). v.about) e.left ∙ c.loop-first.invariant.same;
       told = one_knows _ c.loop-first.seats.items _ c.cut_one-seat.result c.push_reserved.ensures.items
           c.loop-first.invariant.told (ap (λ (v : View _ _). v.about) e.right ∙ c.loop-first.invariant.same);
+      layout = ap (λ (v : View _ _). v.layout) e.left ∙ c.loop-first.invariant.layout;
+      laid = one_laid _ c.loop-first.seats.items _ c.cut_one-seat.result c.push_reserved.ensures.items
+          c.loop-first.invariant.laid (ap (λ (v : View _ _). v.layout) e.right ∙ c.loop-first.invariant.layout);
     }
 
 pub returns-clause-all : goal.returns-clause-all
@@ -85,3 +90,6 @@ returns-clause-fresh g c = let a = c.requires.apart in record {
   none = none_heard_yet c.args.table.now.table_id _ (one_place a.0 c.args.players.now) none_heard c.args.players.now
       c.loop-first.first c.loop-first.seats.items (c.loop-first.invariant.apart a.0 a.1) (λ n. refl);
 }
+
+pub returns-clause-layout : goal.returns-clause-layout
+returns-clause-layout g c = c.loop-first.invariant.laid

@@ -7,6 +7,7 @@ use Rattle.redo_ownrule.specs.Players.{actor_of, place}
 use Rattle.redo_rule.proofs.Gathered.{KnowTable}
 use Rattle.redo_rule.specs.Gathering.{PartIsKept}
 use Rattle.redo_rule.specs.Ruled.{none_heard}
+use Rattle.redo_rule.specs.Sharing.{AreLaidOut}
 use Rattle.redo_ownrule.proofs.seats.cut_all.Given as goal
 
 abbrev pub invariant-loop-first : goal.invariant-loop-first
@@ -19,6 +20,8 @@ invariant-loop-first g l = record {
   few : length l.seats.items ≤ length l.players;
   same : l.first.me.0.about ≡ l.initial.first.me.0.about;
   told : KnowTable l.initial.first.me.0.about l.seats.items;
+  layout : l.first.me.0.layout ≡ l.initial.first.me.0.layout;
+  laid : AreLaidOut l.initial.first.me.0.layout l.seats.items;
 }
 
 abbrev pub decreases-loop-first : goal.decreases-loop-first

@@ -12,6 +12,8 @@ use Rattle.redo_rule.proofs.Told.{about_begins, about_may}
 use Rattle.redo_rule.specs.Ruled.{starts_about}
 use Rattle.redo_rule.specs.Sharing.{laid}
 use Rattle.redo_rule.specs.declared.law.About.{About}
+use Rattle.redo_store.specs.declared.opened.Opened.{Opened}
+use Rattle.redo_words.specs.{shape_layout}
 
 pub take_staff-requires : goal.take_staff-requires
 take_staff-requires g c = have_workers g.L.Sectors.seen g.D.Sectors.seen g.R.Receiver.stands_for c.args.opened
@@ -86,12 +88,14 @@ returns-in-Ok-make_board-clause-new g c =
           (record {
             board = c.in-Ok-make_board.board;
             first = c.in-Ok-make_board.first;
+            layout = shape_layout c.args.opened.shape;
             seats = Some c.in-Ok-lay_out.seats;
             actors = c.in-Ok.field-0.room;
             entries = start.entries;
           })
           made.key made.ids (made.slots ∙ ap length c.in-Ok-lay_out.ensures.slots.0)
-          (made.words ∙ c.as_slice.ensures.count) made.me c.in_ok-parts.ensures.begins.no_entries
+          (made.words ∙ c.as_slice.ensures.count) made.me
+          (ap (λ (o : Opened _ _). shape_layout o.shape) (sym c.of-opened_is.ensures)) c.in_ok-parts.ensures.begins.no_entries
           (let s = ap length c.of.ensures in let r = c.in_ok-parts.ensures.begins.room in omega arith)
           refl refl (
             c.in-Ok-lay_out.ensures.room.0,

@@ -1,4 +1,4 @@
-use Rattle.std.proofs.Common.{rules, ◌∙◌}
+use Rattle.std.proofs.Common.{refl, rules, ◌∙◌}
 use Rattle.redo_ownrule.proofs.Seatings.{all_in_first, none_in_first, one_part}
 use Rattle.redo_ownrule.specs.Players.{place}
 use Rattle.redo_ownrule.specs.Sharing.{own_of}
@@ -46,3 +46,6 @@ returns-clause-seats g c =
       count = c.cut_all.ensures.all;
       each = λ i seat p at there. let e = apart.each i seat p at there in (e.0, e.1);
     }
+
+pub returns-clause-layout : goal.returns-clause-layout
+returns-clause-layout g c = (refl, λ i seat at. c.cut_all.ensures.layout i seat at ∙ c.requires.layout)
