@@ -223,7 +223,7 @@ module _ (c : Setup) (script : List ScriptLine) (shape : Shape) (limits : IsWith
     some_page = some;
     there = λ user j k l. let z = (below user j).there k l in omega arith;
     page_size = subst IsPageSize (sym size) limits.page_size;
-    slots = (slots_within shape limits).some;
+    slots = subst (λ (n : ℕ). 1 ≤ n) (sym slots) (slots_within shape limits).some;
     apart = λ user j i k lt l e. let z = (below user j).ascending i k lt l in absurd (omega arith);
     within = λ user j k i l. let z = (below user j).within k i l in omega arith;
     ascending = ascend;
