@@ -1,5 +1,5 @@
 -- One block more of what an archive lacks, and then others.
-use Rattle.std.proofs.Common.{Err, None, Ok, Option, Result, Some, ap, arith, false, is_err, is_some, List, min, refl, subst, sym, ℕ, ◌+◌, ◌<◌, ◌∙◌, ◌≡◌, ◌≤◌}
+use Rattle.std.proofs.Common.{Err, None, Ok, Option, Result, Some, ap, arith, false, is_err, is_some, List, refl, subst, sym, ℕ, ◌+◌, ◌<◌, ◌∙◌, ◌≡◌, ◌≤◌}
 use Rattle.std.proofs.Math.Nat.{min-le_right}
 use Rattle.std.specs.Prelude.{IfSome, OnErr, OnOk}
 use Rattle.model_archive.specs.declared.marks.ArchMarks.{ArchMarks}
@@ -21,7 +21,7 @@ use Rattle.redo_drive.proofs.ArchiveGroups.{risen_since}
 use Rattle.redo_drive.proofs.ArchiveTurns.{asked_then}
 use Rattle.redo_drive.proofs.CallsOn.{calls_then, not_called}
 use Rattle.redo_drive.specs.Archived.{HoldsFrom, IsReadBack}
-use Rattle.redo_drive.specs.Archiving.{AsksUpTo, IsSameArchive}
+use Rattle.redo_drive.specs.Archiving.{IsSameArchive}
 use Rattle.redo_drive.specs.LogPartSide.{LogRead}
 use Rattle.redo_finish.specs.{Finishes}
 use Rattle.redo_logdev.specs.{DiskHolds, HoldsBlock}

@@ -7,8 +7,7 @@ use mathlib.Core.Option as maybe
 use Rattle.atomic_table.specs.declared.shared.Seat.{Seat}
 use Rattle.model_core.specs.Actors as model
 use Rattle.model_core.specs.LogSide.{LogSide}
-use Rattle.model_core.specs.{archives, Entry, Given, index, lsn, ReaderState}
-use Rattle.model_core.specs.declared.words.Word.TheVariants as word
+use Rattle.model_core.specs.{archives, Entry, flushed_at, Given, lsn, ReaderState}
 use Rattle.model_log.specs.{IsDataLsn, IsRunOf}
 use Rattle.model_log.specs.declared.group.Whole.{Whole}
 use Rattle.model_running.proofs.Groups.{run_of_log}
@@ -60,7 +59,7 @@ module _ {L D A F : Type 0} {gives : A → Call → A → Type 0} (log_seen : L 
   log = left.by.from.runs.running.log_ghost.log
 
   abbrev flushed : ℕ
-  flushed = slice_index left.by.last.words.words (index word.Flushed)
+  flushed = slice_index left.by.last.words.words flushed_at
 
   its_start : part.start ≡ lsn base
   its_start = S.same.start ∙ start ∙ sym left.by.is_run.start

@@ -12,6 +12,7 @@ use Rattle.model_core.specs.declared.ops.Op.TheVariants as op
 use Rattle.model_core.specs.declared.ops.Step.{Step}
 use Rattle.model_core.specs.declared.steps.ReaderStep.{ReaderStep}
 use Rattle.model_core.specs.declared.steps.ReaderStep.TheVariants as reader_step
+use Rattle.model_core.specs.declared.words.Layout.{Layout}
 use Rattle.model_core.specs.declared.words.Word.TheVariants as word
 use Rattle.model_core.specs.{after_of, answer_of, Listed, next, next_mark, old_of, reader_op, reader_program, ReaderState, took}
 use Rattle.model_log.specs.{IsDataLsn, IsRunOf}
@@ -52,13 +53,13 @@ appends_none r none = by r.checks r.step none
     by false _ none = tt
 
 -- what a load of FLUSHED tells is the word
-module _ (ls : ℕ → List Listed) (broken : Bool) (code mark : ℕ) (ws : List ℕ) (place : IsDataLsn (slice_index ws 3)) (limit : ℕ)
-    (low : slice_index ws 3 ≤ limit) where
-  hears : (r : ReaderState) → HearsFlushed limit r (answer_of ls broken code mark ws (next (model.Reader r)))
+module _ (layout : Layout) (ls : ℕ → List Listed) (broken : Bool) (code mark : ℕ) (ws : List ℕ)
+    (place : IsDataLsn (slice_index ws 3)) (limit : ℕ) (low : slice_index ws 3 ≤ limit) where
+  hears : (r : ReaderState) → HearsFlushed limit r (answer_of layout ls broken code mark ws (next (model.Reader r)))
   hears r = by r.checks r.step
     where
       by : (b : Bool) (st : ReaderStep) → cond b (Unit {0})
-          (heard_at limit (old_of (answer_of ls broken code mark ws (cond b (op.Load word.Failed) (reader_op r st)))) st)
+          (heard_at limit (old_of (answer_of layout ls broken code mark ws (cond b (op.Load word.Failed) (reader_op r st)))) st)
       by true st = tt
       by false reader_step.LoadFlushed = (low, place)
       by false reader_step.TakeDevice = tt
@@ -188,9 +189,10 @@ module _ {L D A : Type 0} {gives : A → Call → A → Type 0} (log_seen : L �
         (flushed_within log_seen data_seen s.run s.old s.actors s.runs s.about.opened.value s.about.script.value
         s.about.log_only s.about.followers s.is_about.is_run)
 
-    said : ◌≡◌ {A = Answer} played.answer (answer_of (lists_of played.shown.old.lists) (is_some played.shown.old.log.failed)
-        played.shown.turn.code played.shown.new.log.marks.stable ws (next (model.Reader r)))
-    said = played.shown.turn.answered ∙ ap {B = Answer} (λ (a : model.Actor). answer_of (lists_of played.shown.old.lists)
+    said : ◌≡◌ {A = Answer} played.answer (answer_of played.shown.old.words.layout (lists_of played.shown.old.lists)
+        (is_some played.shown.old.log.failed) played.shown.turn.code played.shown.new.log.marks.stable ws (next (model.Reader r)))
+    said = played.shown.turn.answered ∙ ap {B = Answer} (λ (a : model.Actor). answer_of played.shown.old.words.layout
+        (lists_of played.shown.old.lists)
         (is_some played.shown.old.log.failed) played.shown.turn.code played.shown.new.log.marks.stable ws (next a)) who_is
 
     its_flushed : Upper S.flushed (slice_index ws 3) (end_about about)
@@ -201,7 +203,7 @@ module _ {L D A : Type 0} {gives : A → Call → A → Type 0} (log_seen : L �
         let s = played.shown in
         let heard : HearsFlushed its_flushed.most r played.answer =
         subst (λ (a : Answer). HearsFlushed its_flushed.most r a) (sym said)
-        (hears (lists_of s.old.lists) (is_some s.old.log.failed) s.turn.code s.new.log.marks.stable ws
+        (hears s.old.words.layout (lists_of s.old.lists) (is_some s.old.log.failed) s.turn.code s.new.log.marks.stable ws
         (flushed_place log_seen data_seen s.run s.old s.actors s.runs) its_flushed.most its_flushed.second r) in
         subst (λ (z : ReaderState). KeepsPace seen (end_about about) its_flushed.most z part) x_is
         (pace-turns seen (end_about about) its_flushed.most part r filling played.answer (appends_none r none) heard

@@ -4,11 +4,11 @@ use Rattle.std.proofs.Common.{sym, zero, ℕ, ⊎_elim, ◌++◌, ◌+◌, ◌<�
 use lib.ListN.{get_elem?}
 use mathlib.Core.Option as maybe
 use Rattle.atomic_table.proofs.Lists.{at_set}
-use Rattle.model_core.specs.{Given, index}
+use Rattle.model_core.specs.{Given}
 use Rattle.model_core.specs.Actors as model
 use Rattle.model_core.specs.declared.steps.UserStep.{UserStep}
 use Rattle.model_core.specs.declared.steps.UserStep.TheVariants as user_step
-use Rattle.model_core.specs.declared.words.Word.TheVariants as word
+use Rattle.model_core.specs.Layout.{failed_at}
 use Rattle.model_logcore.specs.LogFits.{UserAt}
 use Rattle.model_own.specs.OwnWrites.{LogWork}
 use Rattle.model_running.specs.Schedule.{HaveEnded}
@@ -104,7 +104,7 @@ module _ {L D F : Type 0} {archive : Bool} (log_seen : L → Seen) (log_gives : 
   have_answered ended none seat u at =
       let R = left.from.runs.running in
       let fits = R.both.logged.each seat (model.User u) at in
-      let code : slice_index left.last.words.words (index word.Failed) ≡ R.shared.failed = ap (λ (ws : List ℕ). slice_index ws (index word.Failed)) R.flat_is in
+      let code : slice_index left.last.words.words failed_at ≡ R.shared.failed = ap (λ (ws : List ℕ). slice_index ws failed_at) R.flat_is in
       let zero_is : R.shared.failed ≡ 0 = sym code ∙ sym left.code ∙ none in
       ⊎_elim
       (λ done. let at_done : UserAt (run_log_side log_seen data_seen left.run) left.run.setup R.shared R.log_ghost left.last.log seat u user_step.Done = subst (λ (s : UserStep). UserAt (run_log_side log_seen data_seen left.run) left.run.setup R.shared R.log_ghost left.last.log seat u s) done fits.step in at_done.1)

@@ -81,6 +81,7 @@ module _ {L D F : Type 0} (stands : F → List Given → Type 0) where
   seat_refl v a = record {
     about = refl;
     number = refl;
+    layout = refl;
     same = follower_refl (follower_of a);
     since = [];
     heard = sym (append-nil (heard_of v).groups);
@@ -94,6 +95,7 @@ module _ {L D F : Type 0} (stands : F → List Given → Type 0) where
   seat_trans v w x a b c h k = record {
     about = k.about ∙ h.about;
     number = k.number ∙ h.number;
+    layout = k.layout ∙ h.layout;
     same = follower_trans (follower_of a) (follower_of b) (follower_of c) h.same k.same;
     since = h.since ++ k.since;
     heard = k.heard ∙ ap (λ (l : List Given). l ++ k.since) h.heard ∙ append_assoc (heard_of v).groups h.since k.since;

@@ -9,6 +9,7 @@ pub mod Ending
 pub mod Going
 pub mod Heard
 pub mod Keeping
+pub mod Laid
 pub mod ReadMarks
 pub mod Readers
 pub mod ScriptBytes

@@ -9,10 +9,9 @@ use mathlib.Core.Option as maybe
 use Rattle.atomic_table.proofs.Lists.{at_longer}
 use Rattle.model_base.specs.declared.shape.Shape.{Shape}
 use Rattle.model_core.proofs.Lsns.{lsn_le}
-use Rattle.model_core.specs.{index, Line, line_at, ReaderState, UserState}
+use Rattle.model_core.specs.{flushed_at, Line, line_at, ReaderState, UserState}
 use Rattle.model_core.specs.Actors as model
 use Rattle.model_core.specs.Setup.{Setup}
-use Rattle.model_core.specs.declared.words.Word.TheVariants as word
 use Rattle.model_ends.proofs.Sizes.{sn_within}
 use Rattle.model_ends.specs.Bound.{bytes_of, last_lsn}
 use Rattle.model_log.specs.{group_length, group_text, lsn_of, sn_of, stream_of}
@@ -186,7 +185,7 @@ module _ {L D : Type 0} {archive : Bool} (log_seen : L → Seen) (data_seen : D 
       let same = lsn_is (c.base + n) ∙ ap (λ (k : ℕ). lsn_of (k + n)) base in omega arith
 
   -- AND SO DOES FLUSHED.
-  pub flushed_within : slice_index parts.words.words (index word.Flushed) ≤ script_end opened.shape opened.start script
+  pub flushed_within : slice_index parts.words.words flushed_at ≤ script_end opened.shape opened.start script
   flushed_within =
       let last = last_within in
       let reserved = flushed_reserved log_seen data_seen run parts actors R in

@@ -8,6 +8,7 @@ use Rattle.atomic_table.specs.declared.shared.Seat.{Seat}
 use Rattle.model_core.specs.{Given, next, ReaderState, took}
 use Rattle.model_core.specs.Actors as model
 use Rattle.model_core.specs.declared.ops.Op.TheVariants as op
+use Rattle.model_core.specs.declared.words.Layout.{Layout}
 use Rattle.model_log.specs.{IsRunOf}
 use Rattle.model_log.specs.declared.group.Whole.{Whole}
 use Rattle.model_own.specs.OwnWrites.{LogWork}
@@ -108,6 +109,10 @@ pub record BeginsWithReaders {L D F : Type 0} (shared : Shared L D F) (players :
   pub works : is_some work ≡ own_of shared
   pub actors_are : starts_of shared ≡ views_of (crew work players)
   pub readers : EndsWithReaders (opened_of shared).start shared.board.shared.key.archive (crew work players) followers
+
+-- a worker's seat has these words, if there is one
+abbrev pub IsLaidOut : {L D A F : Type 0} → Layout → Option (Worker L D A F) → Type 0
+IsLaidOut layout worker = IfSome worker (λ w. w.seat.me.0.layout ≡ layout)
 
 -- a worker has come to its end, if there is one
 abbrev pub AtItsEnd : {L D A F : Type 0} → Option (Worker L D A F) → Type 0

@@ -15,7 +15,7 @@ use redo_drive::Actor;
 use redo_follow::Receiver;
 use redo_ownrule::{Player, play};
 use redo_rule::{Ring, Seat, append};
-use redo_words::{Op, Step};
+use redo_words::{Layout, Op, Step};
 
 /// Appends the block that the archiver has read, up to this mark, and tells the table.
 fn append_to<L: Sectors, D: Sectors, A: Sectors, F: Receiver>(
@@ -43,11 +43,13 @@ fn append_to<L: Sectors, D: Sectors, A: Sectors, F: Receiver>(
 /// Plays the Op that a player asks for in its seat; an append of the archiver with this archive, if there is one.
 pub(crate) fn play_with<L: Sectors, D: Sectors, A: Sectors, F: Receiver>(
     table: &Ring<L, D>,
+    layout: Layout,
     seat: &mut Seat<L, D>,
     player: &mut Player<F>,
     archive: &mut Option<ArchPart<A>>,
     op: Op,
 ) -> Step
+    requires layout { seat.old.me.0.layout ≡ layout }
     requires seat { IsPlayerSeat table.now.table_id seat.old player.old }
     requires asks { PlayerAsks seat.old.me.0 player.old op }
     requires archive { MayArchive A.seen A.gives seat.old.me.0 player.old archive.old }
@@ -57,13 +59,13 @@ pub(crate) fn play_with<L: Sectors, D: Sectors, A: Sectors, F: Receiver>(
     archiver_turns::<A>();
     archiver_may_append::<A>();
     let Op::Append(mark) = op else {
-        return play(table, seat, player, op);
+        return play(table, seat, player, layout, op);
     };
     match archive {
         Some(part) => match player {
             Player::Plain(actor) => append_to(table, seat, actor, part, mark),
             Player::Own(_) => unreachable!(),
         },
-        None => play(table, seat, player, op),
+        None => play(table, seat, player, layout, op),
     }
 }

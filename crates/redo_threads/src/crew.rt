@@ -1,6 +1,7 @@
 // Players with their seats, in their order.
 ghost use Rattle.std.specs.Prelude.{length, ◌<◌, ◌≡◌};
-ghost use Rattle.redo_threads.specs.Archiving.{MayWork, WorksOn};
+ghost use Rattle.redo_rule.specs.Sharing.{AreLaidOut};
+ghost use Rattle.redo_threads.specs.Archiving.{IsLaidOut, MayWork, WorksOn};
 ghost use Rattle.redo_threads.specs.Working.{AreAtEnd, AreSeated, HasPlace, IsPutBack, IsTakenOut, KeepOn};
 
 use crate::bells::{Bells, Call};
@@ -12,6 +13,7 @@ use redo_disk::Sectors;
 use redo_follow::Receiver;
 use redo_ownrule::Player;
 use redo_rule::{Ring, Seat};
+use redo_words::Layout;
 use std::sync::Wait;
 
 /// A player in its seat; and its archive, if it is the archiver.
@@ -76,11 +78,13 @@ impl<L: Sectors, D: Sectors, F: Receiver + Drop> Crew<L, D, F> {
 /// one of them has gone on.
 fn round<L: Sectors, D: Sectors, A: Sectors + Drop, F: Receiver, G: Gate>(
     table: &Ring<L, D>,
+    layout: Layout,
     bells: &Bells,
     gate: &G,
     crew: &mut Crew<L, D, F>,
 ) -> Option<bool>
-    requires { AreSeated table.now.table_id crew.old.seats.items crew.old.players.items }
+    requires seated { AreSeated table.now.table_id crew.old.seats.items crew.old.players.items }
+    requires laid { AreLaidOut layout crew.old.seats.items }
     ensures { KeepOn F.stands_for table.now.table_id crew.old crew.new }
 {
     let mut open = None;
@@ -88,6 +92,7 @@ fn round<L: Sectors, D: Sectors, A: Sectors + Drop, F: Receiver, G: Gate>(
         let mut none: Option<ArchPart<A>> = None;
         let went_on = stint(
             table,
+            layout,
             bells,
             gate,
             &mut crew.seats[k],
@@ -111,16 +116,19 @@ fn either(one: Option<bool>, other: Option<bool>) -> Option<bool> {
 /// Lets the archiver play for a stint, if it has no thread, as a player of `round`.
 fn archiver_round<L: Sectors, D: Sectors, A: Sectors, F: Receiver, G: Gate>(
     table: &Ring<L, D>,
+    layout: Layout,
     bells: &Bells,
     gate: &G,
     archiver: &mut Option<Worker<L, D, A, F>>,
 ) -> Option<bool>
-    requires { MayWork A.seen A.gives table.now.table_id archiver.old }
+    requires archiver { MayWork A.seen A.gives table.now.table_id archiver.old }
+    requires its { IsLaidOut layout archiver.old }
     ensures { WorksOn A.seen A.gives F.stands_for table.now.table_id archiver.old archiver.new }
 {
     match archiver {
         Some(worker) => stint(
             table,
+            layout,
             bells,
             gate,
             &mut worker.seat,
@@ -135,13 +143,16 @@ fn archiver_round<L: Sectors, D: Sectors, A: Sectors, F: Receiver, G: Gate>(
 pub(crate) fn play_here<R: Wait, L: Sectors, D: Sectors, A: Sectors + Drop, F: Receiver, G: Gate>(
     rt: &R,
     table: &Ring<L, D>,
+    layout: Layout,
     bells: &Bells,
     gate: &G,
     crew: &mut Crew<L, D, F>,
     archiver: &mut Option<Worker<L, D, A, F>>,
 )
     requires seated { AreSeated table.now.table_id crew.old.seats.items crew.old.players.items }
+    requires laid { AreLaidOut layout crew.old.seats.items }
     requires archiver { MayWork A.seen A.gives table.now.table_id archiver.old }
+    requires its { IsLaidOut layout archiver.old }
     ensures crew { KeepOn F.stands_for table.now.table_id crew.old crew.new }
     ensures archiver { WorksOn A.seen A.gives F.stands_for table.now.table_id archiver.old archiver.new }
 {
@@ -150,8 +161,8 @@ pub(crate) fn play_here<R: Wait, L: Sectors, D: Sectors, A: Sectors + Drop, F: R
     }
     let mut pace = Pace::of_many(bells);
     for _ in rt.forever() {
-        let others = round::<L, D, A, F, G>(table, bells, gate, crew);
-        let its = archiver_round(table, bells, gate, archiver);
+        let others = round::<L, D, A, F, G>(table, layout, bells, gate, crew);
+        let its = archiver_round(table, layout, bells, gate, archiver);
         match either(others, its) {
             None => {
                 pace.leave(bells);
@@ -168,11 +179,13 @@ pub(crate) fn play_here<R: Wait, L: Sectors, D: Sectors, A: Sectors + Drop, F: R
 pub(crate) fn to_ends<R: Wait, L: Sectors, D: Sectors, A: Sectors + Drop, F: Receiver, G: Gate>(
     rt: &R,
     table: &Ring<L, D>,
+    layout: Layout,
     bells: &Bells,
     gate: &G,
     crew: &mut Crew<L, D, F>,
 )
-    requires { AreSeated table.now.table_id crew.old.seats.items crew.old.players.items }
+    requires seated { AreSeated table.now.table_id crew.old.seats.items crew.old.players.items }
+    requires laid { AreLaidOut layout crew.old.seats.items }
     ensures goes_on { KeepOn F.stands_for table.now.table_id crew.old crew.new }
     ensures at_end { AreAtEnd crew.new.players.items }
 {
@@ -181,6 +194,7 @@ pub(crate) fn to_ends<R: Wait, L: Sectors, D: Sectors, A: Sectors + Drop, F: Rec
         work(
             rt,
             table,
+            layout,
             bells,
             gate,
             &mut crew.seats[number],

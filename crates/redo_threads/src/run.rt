@@ -15,6 +15,7 @@ ghost use Rattle.redo_ownrule.specs.declared.player.Player.{Player as ThePlayer}
 ghost use Rattle.redo_rule.specs.Closing.{IsOwedRun};
 ghost use Rattle.redo_rule.specs.Failing.{CodeHasCause};
 ghost use Rattle.redo_rule.specs.Reached.{ReachesAll};
+ghost use Rattle.redo_rule.specs.Sharing.{AreLaidOut};
 ghost use Rattle.redo_rule.specs.declared.law.About.{About};
 ghost use Rattle.redo_threads.specs.Archiving.{BeginsWithReaders, IsArchiving, LeavesArchive, MayBeArchived, lost_of};
 ghost use Rattle.redo_threads.specs.Ended.{HaveRun};
@@ -31,6 +32,7 @@ use redo_drive::{Actor, Closed};
 use redo_follow::Receiver;
 use redo_ownrule::{Player, Shared};
 use redo_rule::Ring;
+use redo_words::Layout;
 use std::sync::Wait;
 use std::thread::{Threads, available_parallelism};
 
@@ -97,12 +99,14 @@ fn play_crew<
 >(
     rt: &R,
     table: &Ring<L, D>,
+    layout: Layout,
     bells: &Bells,
     gate: &G,
     mut crew: Crew<L, D, F>,
     archive: Option<ArchPart<A>>,
 ) -> (Crew<L, D, F>, Option<ArchPart<A>>)
     requires seated { AreSeated table.now.table_id crew.seats.items crew.players.items }
+    requires laid { AreLaidOut layout crew.seats.items }
     requires archive { IfSome archive (λ part. (about : About L D) × (before : Part A) × MayBeArchived A.seen A.gives
         about before crew part) }
     ensures goes_on { KeepOn F.stands_for table.now.table_id crew result.0 }
@@ -110,12 +114,14 @@ fn play_crew<
     ensures archive { LeavesArchive A.seen A.gives crew archive result.0 result.1 }
 {
     let Some(part) = archive else {
-        let (crew, _none) = play_all::<R, L, D, A, F, G>(rt, table, bells, gate, crew, None);
+        let (crew, _none) = play_all::<R, L, D, A, F, G>(
+            rt, table, layout, bells, gate, crew, None,
+        );
         return (crew, None);
     };
     let place = archiver_at(crew.players.as_slice());
     let worker = crew.take_out(place, Some(part));
-    let (mut played, archiver) = play_all(rt, table, bells, gate, crew, Some(worker));
+    let (mut played, archiver) = play_all(rt, table, layout, bells, gate, crew, Some(worker));
     let Some(worker) = archiver else {
         unreachable!()
     };
@@ -171,8 +177,9 @@ pub fn run_threads<
     let own_writes = write_for_themselves(players.as_slice());
     let bells = Bells::new(users, own_writes, processors(rt));
     let seats = shared.seats(players.as_slice());
+    let layout = shared.layout();
     let crew = Crew { seats, players };
-    let (crew, archive) = play_crew(rt, shared.ring(), &bells, gate, crew, archive);
+    let (crew, archive) = play_crew(rt, shared.ring(), layout, &bells, gate, crew, archive);
     let Crew { seats, players } = crew;
     let lost = lost_by(&archive);
     let (closed, actors) = shared.finish(seats, players, lost);

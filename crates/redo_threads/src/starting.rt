@@ -1,7 +1,8 @@
 // A thread for each player, where one can be started.
 ghost use Rattle.std.specs.Prelude.{IfErr, IfOk, length, ◌≡◌, ◌≤◌};
 ghost use Rattle.redo_ownrule.specs.Playing.{IsPlayerSeat};
-ghost use Rattle.redo_threads.specs.Archiving.{AtItsEnd, GoesOnWith, MayArchive, MayWork, WorksOn};
+ghost use Rattle.redo_rule.specs.Sharing.{AreLaidOut};
+ghost use Rattle.redo_threads.specs.Archiving.{AtItsEnd, GoesOnWith, IsLaidOut, MayArchive, MayWork, WorksOn};
 ghost use Rattle.redo_threads.specs.Working.{AreAtEnd, AreSeated, KeepOn};
 
 use crate::bells::Bells;
@@ -11,6 +12,7 @@ use crate::work::work;
 use redo_disk::Sectors;
 use redo_follow::Receiver;
 use redo_rule::Ring;
+use redo_words::Layout;
 use std::snapshot::Snapshot;
 use std::sync::Wait;
 use std::sync::atomic::{AtomicU64, Ordering};
@@ -38,12 +40,14 @@ impl<L: Sectors, D: Sectors, A: Sectors, F: Receiver> Promise<Worker<L, D, A, F>
 fn work_or_return<R: Wait, L: Sectors, D: Sectors, A: Sectors, F: Receiver, G: Gate>(
     rt: &R,
     table: &Ring<L, D>,
+    layout: Layout,
     bells: &Bells,
     refused: &AtomicU64,
     gate: &G,
     number: u64,
     mut worker: Worker<L, D, A, F>,
 ) -> Worker<L, D, A, F>
+    requires layout { worker.seat.me.0.layout ≡ layout }
     requires seat { IsPlayerSeat table.now.table_id worker.seat worker.player }
     requires archive { MayArchive A.seen A.gives worker.seat.me.0 worker.player worker.archive }
     ensures { GoesOnWith A.seen A.gives F.stands_for table.now.table_id worker.seat worker.player worker.archive
@@ -53,6 +57,7 @@ fn work_or_return<R: Wait, L: Sectors, D: Sectors, A: Sectors, F: Receiver, G: G
         work(
             rt,
             table,
+            layout,
             bells,
             gate,
             &mut worker.seat,
@@ -78,12 +83,14 @@ fn start_one<
     scope: &'s Scope<'s, E>,
     rt: &'s R,
     table: &'s Ring<L, D>,
+    layout: Layout,
     bells: &'s Bells,
     refused: &'s AtomicU64,
     gate: &'s G,
     number: usize,
     worker: Worker<L, D, A, F>,
 ) -> Result<PromisedHandle<Worker<L, D, A, F>, FromWorker<L, D, A, F>>, Worker<L, D, A, F>>
+    requires layout { worker.seat.me.0.layout ≡ layout }
     requires seat { IsPlayerSeat table.now.table_id worker.seat worker.player }
     requires archive { MayArchive A.seen A.gives worker.seat.me.0 worker.player worker.archive }
     ensures ok { IfOk result (λ handle. handle.promise.0.value ≡ worker) }
@@ -98,11 +105,12 @@ fn start_one<
     match scope.spawn_with(
         promise,
         move || -> Worker<L, D, A, F>
+            requires layout { worker.seat.me.0.layout ≡ layout }
             requires seat { IsPlayerSeat table.now.table_id worker.seat worker.player }
             requires archive { MayArchive A.seen A.gives worker.seat.me.0 worker.player worker.archive }
             ensures { GoesOnWith A.seen A.gives F.stands_for table.entry.now.table_id worker.seat worker.player
                 worker.archive result.seat result.player result.archive }
-        { work_or_return(rt, table, bells, refused, gate, number, worker) },
+        { work_or_return(rt, table, layout, bells, refused, gate, number, worker) },
     ) {
         Ok(handle) => Ok(handle),
         Err(error) => {
@@ -128,6 +136,7 @@ fn start<
     scope: &'s Scope<'s, E>,
     rt: &'s R,
     table: &'s Ring<L, D>,
+    layout: Layout,
     bells: &'s Bells,
     refused: &'s AtomicU64,
     gate: &'s G,
@@ -136,21 +145,25 @@ fn start<
     mut archiver: Option<Worker<L, D, A, F>>,
 ) -> (Crew<L, D, F>, Option<Worker<L, D, A, F>>)
     requires seated { AreSeated table.now.table_id crew.seats.items crew.players.items }
+    requires laid { AreLaidOut layout crew.seats.items }
     requires archiver { MayWork A.seen A.gives table.now.table_id archiver }
+    requires its { IsLaidOut layout archiver }
     requires left { left ≤ length crew.players.items }
     ensures crew { KeepOn F.stands_for table.now.table_id crew result.0 }
     ensures archiver { WorksOn A.seen A.gives F.stands_for table.now.table_id archiver result.1 }
 {
     if left == 0 {
-        play_here(rt, table, bells, gate, &mut crew, &mut archiver);
+        play_here(rt, table, layout, bells, gate, &mut crew, &mut archiver);
         return (crew, archiver);
     }
     let number = left - 1;
     let worker = crew.take_out::<A>(number, None);
-    match start_one(scope, rt, table, bells, refused, gate, number, worker) {
+    match start_one(
+        scope, rt, table, layout, bells, refused, gate, number, worker,
+    ) {
         Ok(handle) => {
             let (mut crew, archiver) = start(
-                scope, rt, table, bells, refused, gate, number, crew, archiver,
+                scope, rt, table, layout, bells, refused, gate, number, crew, archiver,
             );
             crew.put_back(number, handle.join(rt));
             (crew, archiver)
@@ -158,7 +171,7 @@ fn start<
         Err(worker) => {
             crew.put_back(number, worker);
             start(
-                scope, rt, table, bells, refused, gate, number, crew, archiver,
+                scope, rt, table, layout, bells, refused, gate, number, crew, archiver,
             )
         }
     }
@@ -178,6 +191,7 @@ fn start_all<
     scope: &'s Scope<'s, E>,
     rt: &'s R,
     table: &'s Ring<L, D>,
+    layout: Layout,
     bells: &'s Bells,
     refused: &'s AtomicU64,
     gate: &'s G,
@@ -185,18 +199,22 @@ fn start_all<
     archiver: Option<Worker<L, D, A, F>>,
 ) -> (Crew<L, D, F>, Option<Worker<L, D, A, F>>)
     requires seated { AreSeated table.now.table_id crew.seats.items crew.players.items }
+    requires laid { AreLaidOut layout crew.seats.items }
     requires archiver { MayWork A.seen A.gives table.now.table_id archiver }
+    requires its { IsLaidOut layout archiver }
     ensures crew { KeepOn F.stands_for table.now.table_id crew result.0 }
     ensures archiver { WorksOn A.seen A.gives F.stands_for table.now.table_id archiver result.1 }
 {
     let left = crew.players.len();
     let Some(worker) = archiver else {
-        return start(scope, rt, table, bells, refused, gate, left, crew, None);
+        return start(
+            scope, rt, table, layout, bells, refused, gate, left, crew, None,
+        );
     };
-    match start_one(scope, rt, table, bells, refused, gate, left, worker) {
+    match start_one(scope, rt, table, layout, bells, refused, gate, left, worker) {
         Ok(handle) => {
             let (crew, _none) = start::<E, R, L, D, A, F, G>(
-                scope, rt, table, bells, refused, gate, left, crew, None,
+                scope, rt, table, layout, bells, refused, gate, left, crew, None,
             );
             (crew, Some(handle.join(rt)))
         }
@@ -204,6 +222,7 @@ fn start_all<
             scope,
             rt,
             table,
+            layout,
             bells,
             refused,
             gate,
@@ -218,11 +237,13 @@ fn start_all<
 fn archiver_to_end<R: Wait, L: Sectors, D: Sectors, A: Sectors, F: Receiver, G: Gate>(
     rt: &R,
     table: &Ring<L, D>,
+    layout: Layout,
     bells: &Bells,
     gate: &G,
     archiver: &mut Option<Worker<L, D, A, F>>,
 )
-    requires { MayWork A.seen A.gives table.now.table_id archiver.old }
+    requires archiver { MayWork A.seen A.gives table.now.table_id archiver.old }
+    requires its { IsLaidOut layout archiver.old }
     ensures goes_on { WorksOn A.seen A.gives F.stands_for table.now.table_id archiver.old archiver.new }
     ensures at_end { AtItsEnd archiver.new }
 {
@@ -230,6 +251,7 @@ fn archiver_to_end<R: Wait, L: Sectors, D: Sectors, A: Sectors, F: Receiver, G: 
         work(
             rt,
             table,
+            layout,
             bells,
             gate,
             &mut worker.seat,
@@ -250,13 +272,16 @@ pub(crate) fn play_all<
 >(
     rt: &R,
     table: &Ring<L, D>,
+    layout: Layout,
     bells: &Bells,
     gate: &G,
     crew: Crew<L, D, F>,
     archiver: Option<Worker<L, D, A, F>>,
 ) -> (Crew<L, D, F>, Option<Worker<L, D, A, F>>)
     requires seated { AreSeated table.now.table_id crew.seats.items crew.players.items }
+    requires laid { AreLaidOut layout crew.seats.items }
     requires archiver { MayWork A.seen A.gives table.now.table_id archiver }
+    requires its { IsLaidOut layout archiver }
     ensures goes_on { KeepOn F.stands_for table.now.table_id crew result.0 }
     ensures at_end { AreAtEnd result.0.players.items }
     ensures archiver { WorksOn A.seen A.gives F.stands_for table.now.table_id archiver result.1 }
@@ -269,12 +294,18 @@ pub(crate) fn play_all<
         rt,
         |all| -> (Crew<L, D, F>, Option<Worker<L, D, A, F>>)
             requires seated { AreSeated table.now.table_id crew.seats.items crew.players.items }
+            requires laid { AreLaidOut layout crew.seats.items }
             requires archiver { MayWork A.seen A.gives table.now.table_id archiver }
+            requires its { IsLaidOut layout archiver }
             ensures crew { KeepOn F.stands_for table.entry.now.table_id crew result.0 }
             ensures archiver { WorksOn A.seen A.gives F.stands_for table.entry.now.table_id archiver result.1 }
-        { start_all(all, rt, table, bells, refused_at, gate, crew, archiver) },
+        {
+            start_all(
+                all, rt, table, layout, bells, refused_at, gate, crew, archiver,
+            )
+        },
     );
-    to_ends::<R, L, D, A, F, G>(rt, table, bells, gate, &mut played);
-    archiver_to_end(rt, table, bells, gate, &mut archived);
+    to_ends::<R, L, D, A, F, G>(rt, table, layout, bells, gate, &mut played);
+    archiver_to_end(rt, table, layout, bells, gate, &mut archived);
     (played, archived)
 }

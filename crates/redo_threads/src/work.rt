@@ -17,7 +17,7 @@ use redo_follow::Receiver;
 use redo_ownrule::{Player, ask, is_at_rest};
 use redo_rule::{Ring, Seat};
 use redo_useractor::UserActor;
-use redo_words::{Op, Step, Word};
+use redo_words::{Layout, Op, Step, Word};
 use std::sync::Wait;
 
 /// How many Ops of a player the caller plays at most before it turns to the next one. One that threads keep busy may never
@@ -115,6 +115,7 @@ fn follow<R: Wait, F: Receiver>(
 /// A player that hasn't come to its end plays the Op that it asks for. Answers how its step ended, and the Op that it asks for now.
 fn turn<L: Sectors, D: Sectors, A: Sectors, F: Receiver, G: Gate>(
     table: &Ring<L, D>,
+    layout: Layout,
     bells: &Bells,
     gate: &G,
     seat: &mut Seat<L, D>,
@@ -122,6 +123,7 @@ fn turn<L: Sectors, D: Sectors, A: Sectors, F: Receiver, G: Gate>(
     archive: &mut Option<ArchPart<A>>,
     op: Op,
 ) -> (Step, Op)
+    requires layout { seat.old.me.0.layout ≡ layout }
     requires seat { IsPlayerSeat table.now.table_id seat.old player.old }
     requires asks { PlayerAsks seat.old.me.0 player.old op }
     requires archive { MayArchive A.seen A.gives seat.old.me.0 player.old archive.old }
@@ -129,7 +131,7 @@ fn turn<L: Sectors, D: Sectors, A: Sectors, F: Receiver, G: Gate>(
         player.new archive.new }
     ensures asks { PlayerAsks seat.new.me.0 player.new result.1 }
 {
-    let step = play_with(table, seat, player, archive, op);
+    let step = play_with(table, layout, seat, player, archive, op);
     let now = ask(table, seat, &*player);
     tell(&*player, op, step, now, bells, gate);
     (step, now)
@@ -139,12 +141,14 @@ fn turn<L: Sectors, D: Sectors, A: Sectors, F: Receiver, G: Gate>(
 /// whether it has gone on, and not only looked in vain.
 pub(crate) fn stint<L: Sectors, D: Sectors, A: Sectors, F: Receiver, G: Gate>(
     table: &Ring<L, D>,
+    layout: Layout,
     bells: &Bells,
     gate: &G,
     seat: &mut Seat<L, D>,
     player: &mut Player<F>,
     archive: &mut Option<ArchPart<A>>,
 ) -> Option<bool>
+    requires layout { seat.old.me.0.layout ≡ layout }
     requires seat { IsPlayerSeat table.now.table_id seat.old player.old }
     requires archive { MayArchive A.seen A.gives seat.old.me.0 player.old archive.old }
     ensures { GoesOnWith A.seen A.gives F.stands_for table.now.table_id seat.old player.old archive.old seat.new
@@ -157,7 +161,7 @@ pub(crate) fn stint<L: Sectors, D: Sectors, A: Sectors, F: Receiver, G: Gate>(
     let in_vain = steps_in_vain(&*player);
     let mut went_on = false;
     for steps in 0..STINT {
-        let (step, now) = turn(table, bells, gate, seat, player, archive, op);
+        let (step, now) = turn(table, layout, bells, gate, seat, player, archive, op);
         match step {
             Step::Moved => {
                 went_on = went_on | has_gone_on(op, steps, in_vain);
@@ -174,12 +178,14 @@ pub(crate) fn stint<L: Sectors, D: Sectors, A: Sectors, F: Receiver, G: Gate>(
 pub(crate) fn work<R: Wait, L: Sectors, D: Sectors, A: Sectors, F: Receiver, G: Gate>(
     rt: &R,
     table: &Ring<L, D>,
+    layout: Layout,
     bells: &Bells,
     gate: &G,
     seat: &mut Seat<L, D>,
     player: &mut Player<F>,
     archive: &mut Option<ArchPart<A>>,
 )
+    requires layout { seat.old.me.0.layout ≡ layout }
     requires seat { IsPlayerSeat table.now.table_id seat.old player.old }
     requires archive { MayArchive A.seen A.gives seat.old.me.0 player.old archive.old }
     ensures goes_on { GoesOnWith A.seen A.gives F.stands_for table.now.table_id seat.old player.old archive.old seat.new
@@ -194,7 +200,7 @@ pub(crate) fn work<R: Wait, L: Sectors, D: Sectors, A: Sectors, F: Receiver, G: 
             pace.leave(bells);
             return;
         }
-        let (step, now) = turn(table, bells, gate, seat, player, archive, op);
+        let (step, now) = turn(table, layout, bells, gate, seat, player, archive, op);
         moved = step == Step::Moved;
         follow(rt, bells, &mut pace, &*player, op, step, now);
         op = now;

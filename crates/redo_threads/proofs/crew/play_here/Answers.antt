@@ -1,5 +1,6 @@
 use Rattle.redo_threads.proofs.Going.{work_still, works_refl, works_trans}
 use Rattle.redo_threads.proofs.Keeping.{keep_refl, keep_seated, keep_trans}
+use Rattle.redo_threads.proofs.Laid.{keep_laid, work_laid}
 use Rattle.redo_threads.proofs.crew.play_here.Goals as goal
 
 pub loop-init : goal.loop-init
@@ -37,10 +38,20 @@ loop-preserved g c = record {
       c.archiver_round-its.ensures;
 }
 
-pub round-others-requires-after_bounds : goal.round-others-requires-after_bounds
-round-others-requires-after_bounds g c κs within =
+pub round-others-requires-clause-seated : goal.round-others-requires-clause-seated
+round-others-requires-clause-seated g c κs within =
     keep_seated g.F.Receiver.stands_for c.args.table.now.table_id c.args.crew.now c.loop.crew c.loop.invariant.crew
 
-pub archiver_round-its-requires-after_bounds : goal.archiver_round-its-requires-after_bounds
-archiver_round-its-requires-after_bounds g c κs within = work_still g.F.Receiver.stands_for c.args.table.now.table_id
+pub archiver_round-its-requires-clause-archiver : goal.archiver_round-its-requires-clause-archiver
+archiver_round-its-requires-clause-archiver g c κs within = work_still g.F.Receiver.stands_for c.args.table.now.table_id
     g.A.Sectors.seen g.A.Sectors.gives c.args.archiver.now c.loop.archiver c.requires.archiver c.loop.invariant.archiver
+
+pub round-others-requires-clause-laid : goal.round-others-requires-clause-laid
+round-others-requires-clause-laid g c κs within =
+    keep_laid g.F.Receiver.stands_for c.args.table.now.table_id c.args.layout c.args.crew.now c.loop.crew
+    c.requires.seated c.requires.laid c.loop.invariant.crew
+
+pub archiver_round-its-requires-clause-its : goal.archiver_round-its-requires-clause-its
+archiver_round-its-requires-clause-its g c κs within = work_laid g.F.Receiver.stands_for c.args.table.now.table_id
+    c.args.layout g.A.Sectors.seen g.A.Sectors.gives c.args.archiver.now c.loop.archiver c.requires.its
+    c.loop.invariant.archiver

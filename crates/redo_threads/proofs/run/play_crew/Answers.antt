@@ -6,6 +6,7 @@ use Rattle.redo_rule.specs.declared.law.About.{About}
 use Rattle.redo_threads.proofs.CrewArchive.{ends_with, may_work, stays}
 use Rattle.redo_threads.proofs.Ending.{past}
 use Rattle.redo_threads.proofs.Keeping.{as_many, has_place, keep_back, rest_seated}
+use Rattle.redo_threads.proofs.Laid.{rest_laid, taken_laid}
 use Rattle.redo_threads.proofs.Workers.{worker as sitting}
 use Rattle.redo_threads.specs.Archiving.{ArchiveStays, AtItsEnd, LeavesArchive, MayBeArchived, WorksOn}
 use Rattle.redo_threads.specs.Working.{AreAtEnd}
@@ -84,3 +85,15 @@ returns-clause-archive g c =
     c.in-Some.part c.take_out-worker.ensures.archive p.0
     (subst (λ l. get_elem? l c.archiver_at-place.result ≡ some p.0) c.as_slice.ensures.value p.1) p.2
     c.play_all-played.result.0 z v c.play_all-played.ensures.goes_on on c.put_back-archive.ensures.back))
+
+pub play_all-played-requires-clause-laid : goal.play_all-played-requires-clause-laid
+play_all-played-requires-clause-laid g c κs within =
+    let w = c.take_out-worker.result in
+    rest_laid g.F.Receiver.stands_for c.args.table.now.table_id c.args.layout c.args.crew c.take_out-worker.new.self
+    c.archiver_at-place.result (sitting w.seat w.player) c.requires.seated c.requires.laid c.take_out-worker.ensures.out
+
+pub play_all-played-requires-clause-its : goal.play_all-played-requires-clause-its
+play_all-played-requires-clause-its g c κs within =
+    let w = c.take_out-worker.result in
+    taken_laid g.F.Receiver.stands_for c.args.table.now.table_id c.args.layout c.args.crew c.take_out-worker.new.self
+    c.archiver_at-place.result (sitting w.seat w.player) c.requires.seated c.requires.laid c.take_out-worker.ensures.out

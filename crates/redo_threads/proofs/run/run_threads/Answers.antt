@@ -13,7 +13,7 @@ use Rattle.redo_rule.specs.Closing.{done_with, TellsLoss}
 use Rattle.redo_rule.specs.Ruled.{starts_about}
 use Rattle.redo_archive.specs.Part.{Part}
 use Rattle.redo_drive.specs.Startable.{IsNewArchive}
-use Rattle.redo_rule.specs.Sharing.{AreFresh}
+use Rattle.redo_rule.specs.Sharing.{AreFresh, AreLaidOut}
 use Rattle.redo_rule.specs.declared.law.About.{About}
 use Rattle.std.specs.Prelude.{IfSome}
 use Rattle.redo_threads.proofs.ArchiveBegins.{may_be}
@@ -36,6 +36,10 @@ play_crew-crew-requires-clause-seated g c κs within =
     c.seats-seats.ensures.seats in
     subst (λ s. AreSeated s.table_id c.seats-seats.result.items c.args.players.items) (sym c.ring.ensures)
     (seated g.F.Receiver.stands_for (table_of S) (own_of S) x at)
+
+pub play_crew-crew-requires-clause-laid : goal.play_crew-crew-requires-clause-laid
+play_crew-crew-requires-clause-laid g c κs within = subst (λ m. AreLaidOut m c.seats-seats.result.items)
+    (sym c.layout-layout.ensures) c.seats-seats.ensures.layout.1
 
 pub finish-closed-requires-clause-seats : goal.finish-closed-requires-clause-seats
 finish-closed-requires-clause-seats g c =

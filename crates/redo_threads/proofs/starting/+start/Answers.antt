@@ -2,6 +2,7 @@ use Rattle.std.proofs.Common.{◌-◌}
 use Rattle.redo_threads.proofs.Going.{with_promised}
 use Rattle.redo_threads.proofs.Keeping.{as_many, has_place, has_place_aside, keep_aside, keep_back}
 use Rattle.redo_threads.proofs.Keeping.{keep_seated, keep_trans, rest_seated, taken_sits}
+use Rattle.redo_threads.proofs.Laid.{keep_laid, rest_laid, taken_laid}
 use Rattle.redo_threads.proofs.Workers.{worker as sitting}
 use Rattle.redo_threads.proofs.starting.+start.Goals as goal
 
@@ -65,3 +66,23 @@ returns-in-Err-clause-crew g t c =
     c.requires.seated c.take_out-worker.ensures.out back (sitting c.in-Err.worker.seat c.in-Err.worker.player)
     c.in-Err.ensures.err.player c.put_back-in-Err.ensures.back)
     c.start.ensures.crew
+
+pub start_one-requires-clause-layout : goal.start_one-requires-clause-layout
+start_one-requires-clause-layout g t c κs within = let rest = c.take_out-worker.new.self in
+    taken_laid g.F.Receiver.stands_for c.args.table.now.table_id c.args.layout c.args.crew rest (c.args.left - 1)
+    (sitting c.take_out-worker.result.seat c.take_out-worker.result.player)
+    c.requires.seated c.requires.laid c.take_out-worker.ensures.out
+
+pub start-crew-requires-clause-laid : goal.start-crew-requires-clause-laid
+start-crew-requires-clause-laid g t c κs within = let rest = c.take_out-worker.new.self in
+    rest_laid g.F.Receiver.stands_for c.args.table.now.table_id c.args.layout c.args.crew rest (c.args.left - 1)
+    (sitting c.take_out-worker.result.seat c.take_out-worker.result.player)
+    c.requires.seated c.requires.laid c.take_out-worker.ensures.out
+
+pub start-requires-clause-laid : goal.start-requires-clause-laid
+start-requires-clause-laid g t c κs within = let rest = c.take_out-worker.new.self in
+    keep_laid g.F.Receiver.stands_for c.args.table.now.table_id c.args.layout c.args.crew c.put_back-in-Err.new.self
+    c.requires.seated c.requires.laid
+    (keep_aside g.F.Receiver.stands_for c.args.table.now.table_id c.args.crew rest (c.args.left - 1)
+    (sitting c.take_out-worker.result.seat c.take_out-worker.result.player) c.requires.seated c.take_out-worker.ensures.out c.put_back-in-Err.new.self
+    (sitting c.in-Err.worker.seat c.in-Err.worker.player) c.in-Err.ensures.err.player c.put_back-in-Err.ensures.back)

@@ -1,6 +1,7 @@
 use Rattle.std.proofs.Common.{Some, subst, sym}
-use Rattle.redo_threads.specs.Archiving.{MayWork, WorksOn}
+use Rattle.redo_threads.specs.Archiving.{IsLaidOut, MayWork, WorksOn}
 use Rattle.redo_threads.proofs.Going.{work_still, works_trans}
+use Rattle.redo_threads.proofs.Laid.{work_laid}
 use Rattle.redo_threads.proofs.starting.start_all.Goals as goal
 
 pub start-requires-in-Err-clause-archiver : goal.start-requires-in-Err-clause-archiver
@@ -17,3 +18,9 @@ returns-in-Err-clause-archiver g c =
     (works_trans g.F.Receiver.stands_for c.args.table.now.table_id g.A.Sectors.seen g.A.Sectors.gives
     (Some c.in-Some.worker)
     (Some c.in-Err.worker) c.start-in-Err.result.1 c.in-Err.ensures.err c.start-in-Err.ensures.archiver)
+
+pub start-requires-in-Err-clause-its : goal.start-requires-in-Err-clause-its
+start-requires-in-Err-clause-its g c κs within =
+    work_laid g.F.Receiver.stands_for c.args.table.now.table_id c.args.layout g.A.Sectors.seen g.A.Sectors.gives
+    (Some c.in-Some.worker) (Some c.in-Err.worker)
+    (subst (IsLaidOut c.args.layout) c.in-Some.is c.requires.its) c.in-Err.ensures.err

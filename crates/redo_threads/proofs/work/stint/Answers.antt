@@ -1,3 +1,4 @@
+use Rattle.std.proofs.Common.{◌∙◌}
 use Rattle.redo_threads.proofs.Going.{may_still, with_asked, with_trans}
 use Rattle.redo_threads.proofs.work.stint.Goals as goal
 
@@ -37,3 +38,7 @@ turn-step-requires-clause-archive g c κs within =
     may_still g.F.Receiver.stands_for c.args.table.now.table_id g.A.Sectors.seen g.A.Sectors.gives c.args.seat.now
     c.loop-steps.seat c.args.player.now c.loop-steps.player c.args.archive.now c.loop-steps.archive c.requires.archive
     c.loop-steps.invariant.goes_on
+
+pub turn-step-requires-clause-layout : goal.turn-step-requires-clause-layout
+turn-step-requires-clause-layout g c κs within =
+    c.loop-steps.invariant.goes_on.player.same.layout ∙ c.requires.layout

@@ -1,3 +1,4 @@
+use Rattle.std.proofs.Common.{◌∙◌}
 use Rattle.redo_threads.proofs.Going.{may_still, with_asked, with_trans}
 use Rattle.redo_threads.proofs.work.work.Goals as goal
 
@@ -22,3 +23,6 @@ turn-step-requires-clause-archive g c κs within =
     may_still g.F.Receiver.stands_for c.args.table.now.table_id g.A.Sectors.seen g.A.Sectors.gives c.args.seat.now
     c.loop.seat
     c.args.player.now c.loop.player c.args.archive.now c.loop.archive c.requires.archive c.loop.invariant.goes_on
+
+pub turn-step-requires-clause-layout : goal.turn-step-requires-clause-layout
+turn-step-requires-clause-layout g c κs within = c.loop.invariant.goes_on.player.same.layout ∙ c.requires.layout
