@@ -1,33 +1,46 @@
 // Words: their numbers, each kind of Op on one, and the lanes that bytes fill.
+use crate::parts::SHAPE;
+use model_base::Shape;
 use redo_words::{
     Answer, Layout, Op, PlainWords, Spot, Word, count_of, number_of, packed, push_lanes, spot_of,
 };
 use std::test::Fail;
 
+/// Two pages with frames of 512 words.
+const TWO_PAGES: Layout = Layout {
+    pages: 2,
+    page_size: 4_096,
+};
+
+/// A shape of so many pages of 4,096 bytes.
+fn shape_of(pages: u32) -> Shape {
+    Shape { pages, ..SHAPE }
+}
+
 /// The first and last words of each kind.
 #[test]
 fn words_stand_kind_after_kind(rt: HostRuntime) {
-    assert_eq!(rt; number_of(Word::Sn), 0);
-    assert_eq!(rt; number_of(Word::Device), 7);
-    assert_eq!(rt; number_of(Word::List(0)), 8);
-    assert_eq!(rt; number_of(Word::List(3)), 11);
-    assert_eq!(rt; number_of(Word::Wlink(0)), 12);
-    assert_eq!(rt; number_of(Word::Wlink(32_767)), 32_779);
-    assert_eq!(rt; number_of(Word::Clink(0)), 32_780);
-    assert_eq!(rt; number_of(Word::Cell(0)), 49_164);
-    assert_eq!(rt; number_of(Word::First(0)), 57_356);
-    assert_eq!(rt; number_of(Word::First(127)), 57_483);
-    assert_eq!(rt; number_of(Word::Place(0)), 57_484);
-    assert_eq!(rt; number_of(Word::Place(4)), 57_488);
-    assert_eq!(rt; number_of(Word::Latch(0)), 57_489);
-    assert_eq!(rt; number_of(Word::Frame(0, 511)), 58_003);
-    assert_eq!(rt; number_of(Word::Latch(1)), 58_004);
-    assert_eq!(rt; count_of(Layout { pages: 2 }), 58_519);
+    assert_eq!(rt; number_of(TWO_PAGES, Word::Sn), 0);
+    assert_eq!(rt; number_of(TWO_PAGES, Word::Device), 7);
+    assert_eq!(rt; number_of(TWO_PAGES, Word::List(0)), 8);
+    assert_eq!(rt; number_of(TWO_PAGES, Word::List(3)), 11);
+    assert_eq!(rt; number_of(TWO_PAGES, Word::Wlink(0)), 12);
+    assert_eq!(rt; number_of(TWO_PAGES, Word::Wlink(32_767)), 32_779);
+    assert_eq!(rt; number_of(TWO_PAGES, Word::Clink(0)), 32_780);
+    assert_eq!(rt; number_of(TWO_PAGES, Word::Cell(0)), 49_164);
+    assert_eq!(rt; number_of(TWO_PAGES, Word::First(0)), 57_356);
+    assert_eq!(rt; number_of(TWO_PAGES, Word::First(127)), 57_483);
+    assert_eq!(rt; number_of(TWO_PAGES, Word::Place(0)), 57_484);
+    assert_eq!(rt; number_of(TWO_PAGES, Word::Place(4)), 57_488);
+    assert_eq!(rt; number_of(TWO_PAGES, Word::Latch(0)), 57_489);
+    assert_eq!(rt; number_of(TWO_PAGES, Word::Frame(0, 511)), 58_003);
+    assert_eq!(rt; number_of(TWO_PAGES, Word::Latch(1)), 58_004);
+    assert_eq!(rt; count_of(TWO_PAGES), 58_519);
 }
 
 #[test]
 fn each_op_answers_what_stood_there(rt: HostRuntime) -> Result<(), Fail> {
-    let mut words = PlainWords::new(rt.alloc(), 2)?;
+    let mut words = PlainWords::new(rt.alloc(), &shape_of(2))?;
     let stored = words.play(Op::Store(Word::Frame(1, 511), 7));
     assert_eq!(rt; stored, Answer::Old(0));
     let loaded = words.play(Op::Load(Word::Frame(1, 511)));
@@ -41,7 +54,7 @@ fn each_op_answers_what_stood_there(rt: HostRuntime) -> Result<(), Fail> {
 
 #[test]
 fn a_latch_is_taken_once(rt: HostRuntime) -> Result<(), Fail> {
-    let mut words = PlainWords::new(rt.alloc(), 1)?;
+    let mut words = PlainWords::new(rt.alloc(), &shape_of(1))?;
     let taken = words.play(Op::Swap(Word::Latch(0), 0, 1));
     assert_eq!(rt; taken, Answer::Old(0));
     let held = words.play(Op::Swap(Word::Latch(0), 0, 1));
@@ -55,7 +68,7 @@ fn a_latch_is_taken_once(rt: HostRuntime) -> Result<(), Fail> {
 
 #[test]
 fn groups_are_reserved_one_behind_the_other(rt: HostRuntime) -> Result<(), Fail> {
-    let mut words = PlainWords::new(rt.alloc(), 1)?;
+    let mut words = PlainWords::new(rt.alloc(), &shape_of(1))?;
     let first = words.play(Op::Add(Word::Sn, 11));
     assert_eq!(rt; first, Answer::Old(0));
     let second = words.play(Op::Add(Word::Sn, 30));
