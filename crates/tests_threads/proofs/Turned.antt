@@ -7,6 +7,7 @@ use native.Mathlib.Decide.{ℕ_discrete}
 use Rattle.atomic_table.proofs.Lists.{at_set}
 use Rattle.atomic_table.specs.Seated.{TableId}
 use Rattle.atomic_table.specs.declared.shared.Seat.{Seat}
+use Rattle.model_core.specs.declared.words.Layout.{Layout}
 use Rattle.redo_ownrule.proofs.Crews.{may_rest}
 use Rattle.redo_ownrule.specs.Players.{ArePlain, IsAtRest, IsSamePlayer}
 use Rattle.redo_ownrule.specs.Playing.{IsPlayerSeat}
@@ -50,8 +51,8 @@ module _ {R : Type 0} where
   plain_set (player.Plain a ∷ ps) (suc n) p q is less same plain = plain_set ps n p q is (omega arith) same plain
   plain_set (player.Own o ∷ ps) n p q is less same plain = absurd plain
 
-module _ {L D R : Type 0} (table : TableId) (seats : List (Seat (Slot L D) (View L D))) (players : List (Player R))
-    (A : ArePlaying table seats players) where
+module _ {L D R : Type 0} (table : TableId) (layout : Layout) (seats : List (Seat (Slot L D) (View L D)))
+    (players : List (Player R)) (A : ArePlaying table layout seats players) where
   -- who has a seat may rest
   pub seated_rest : AllMayRest players
   seated_rest i p at =
@@ -73,11 +74,17 @@ module _ {L D R : Type 0} (table : TableId) (seats : List (Seat (Slot L D) (View
     pub seat_at : IsPlayerSeat table seat p
     seat_at = both.0
 
+    pub laid_at : seat.me.0.layout ≡ layout
+    laid_at =
+        let c = A.seats.count in
+        A.laid n seat
+        (at_or seats n seat (omega arith) ∙ ap (λ (z : Seat (Slot L D) (View L D)). maybe.some z) (sym seat_is))
+
     -- that player has had a turn
     pub turned : (after : Seat (Slot L D) (View L D)) (q : Player R) → IsPlayerSeat table after q
-        → number_of after.me.0 ≡ number_of seat.me.0 → IsSamePlayer p q
-        → ArePlaying table (set seats n after) (set players n q)
-    turned after q is number same = record {
+        → number_of after.me.0 ≡ number_of seat.me.0 → after.me.0.layout ≡ seat.me.0.layout → IsSamePlayer p q
+        → ArePlaying table layout (set seats n after) (set players n q)
+    turned after q is number its_layout same = record {
       seats = record {
         count = length-set seats n after ∙ A.seats.count ∙ sym (length-set players n q);
         each = λ i s r at bt. ⊎_elim
@@ -89,5 +96,9 @@ module _ {L D R : Type 0} (table : TableId) (seats : List (Seat (Slot L D) (View
             (λ t. ⊎_elim (λ u. absurd (t.0 u.0)) (λ u. A.seats.each i s r t.1 u.1) (at_set players n i q r bt))
             (at_set seats n i after s at);
       };
+      laid = λ i s at. ⊎_elim
+          (λ t. subst (λ (z : Seat (Slot L D) (View L D)). z.me.0.layout ≡ layout) t.1 (its_layout ∙ laid_at))
+          (λ t. A.laid i s t.1)
+          (at_set seats n i after s at);
       plain = plain_set players n p q player_is less same A.plain;
     }

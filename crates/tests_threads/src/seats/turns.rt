@@ -15,7 +15,7 @@ use redo_drive::Closed;
 use redo_follow::Tally;
 use redo_ownrule::{Player, ask, is_at_rest, play};
 use redo_rule::{Ring, Seat};
-use redo_words::Step;
+use redo_words::{Layout, Step};
 use std::alloc::Global;
 use std::process::Abort;
 use std::test::Fail;
@@ -47,49 +47,54 @@ pub const NO_TURNS: Run<'static> = Run {
 /// Plays the next Op of a player in its seat.
 fn turn<L: Sectors, D: Sectors>(
     table: &Ring<L, D>,
+    layout: Layout,
     seat: &mut Seat<L, D>,
     player: &mut Player<Tally>,
 ) -> Step
-    requires { IsPlayerSeat table.now.table_id seat.old player.old }
+    requires seat { IsPlayerSeat table.now.table_id seat.old player.old }
+    requires layout { seat.old.me.0.layout ≡ layout }
     ensures seat { IsPlayerSeat table.now.table_id seat.new player.new }
     ensures number { number_of seat.new.me.0 ≡ number_of seat.old.me.0 }
+    ensures layout { seat.new.me.0.layout ≡ seat.old.me.0.layout }
     ensures same { IsSamePlayer player.old player.new }
 {
     let op = ask(table, seat, player);
-    play(table, seat, player, op)
+    play(table, seat, player, layout, op)
 }
 
 /// Plays the next Op of the player at a seat.
 fn turn_at<L: Sectors, D: Sectors>(
     table: &Ring<L, D>,
+    layout: Layout,
     seats: &mut Vec<Seat<L, D>>,
     players: &mut Vec<Player<Tally>>,
     seat: usize,
 ) -> Step
-    requires plays { ArePlaying table.now.table_id seats.old.items players.old.items }
+    requires plays { ArePlaying table.now.table_id layout seats.old.items players.old.items }
     requires there { seat < length players.old.items }
-    ensures plays { ArePlaying table.now.table_id seats.new.items players.new.items }
+    ensures plays { ArePlaying table.now.table_id layout seats.new.items players.new.items }
     ensures count { length players.new.items ≡ length players.old.items }
 {
-    turn(table, &mut seats[seat], &mut players[seat])
+    turn(table, layout, &mut seats[seat], &mut players[seat])
 }
 
 /// Gives the player at a seat turns until one doesn't move it on, at most so many. Answers how many, and how the last
 /// ends.
 fn take_turns<L: Sectors, D: Sectors>(
     table: &Ring<L, D>,
+    layout: Layout,
     seats: &mut Vec<Seat<L, D>>,
     players: &mut Vec<Player<Tally>>,
     seat: usize,
     most: u64,
 ) -> (u64, Step)
-    requires plays { ArePlaying table.now.table_id seats.old.items players.old.items }
+    requires plays { ArePlaying table.now.table_id layout seats.old.items players.old.items }
     requires there { seat < length players.old.items }
-    ensures plays { ArePlaying table.now.table_id seats.new.items players.new.items }
+    ensures plays { ArePlaying table.now.table_id layout seats.new.items players.new.items }
     ensures count { length players.new.items ≡ length players.old.items }
 {
     for taken in 0..most {
-        let step = turn_at(table, seats, players, seat);
+        let step = turn_at(table, layout, seats, players, seat);
         if step != Step::Moved {
             return (taken + 1, step);
         }
@@ -100,19 +105,20 @@ fn take_turns<L: Sectors, D: Sectors>(
 /// Gives each player turns until it doesn't move, the first one last.
 fn play_round<L: Sectors, D: Sectors>(
     table: &Ring<L, D>,
+    layout: Layout,
     seats: &mut Vec<Seat<L, D>>,
     players: &mut Vec<Player<Tally>>,
 )
-    requires { ArePlaying table.now.table_id seats.old.items players.old.items }
-    ensures plays { ArePlaying table.now.table_id seats.new.items players.new.items }
+    requires { ArePlaying table.now.table_id layout seats.old.items players.old.items }
+    ensures plays { ArePlaying table.now.table_id layout seats.new.items players.new.items }
     ensures count { length players.new.items ≡ length players.old.items }
 {
     let count = players.len();
     for seat in 1..count {
-        take_turns(table, seats, players, seat, u64::MAX);
+        take_turns(table, layout, seats, players, seat, u64::MAX);
     }
     if 0 < count {
-        take_turns(table, seats, players, 0, u64::MAX);
+        take_turns(table, layout, seats, players, 0, u64::MAX);
     }
 }
 
@@ -140,17 +146,18 @@ fn turns_of(row: &str) -> (usize, u64, Option<Step>) {
 fn see_turns<L: Sectors, D: Sectors>(
     rt: &impl Abort,
     table: &Ring<L, D>,
+    layout: Layout,
     seats: &mut Vec<Seat<L, D>>,
     players: &mut Vec<Player<Tally>>,
     row: &str,
 )
-    requires { ArePlaying table.now.table_id seats.old.items players.old.items }
-    ensures plays { ArePlaying table.now.table_id seats.new.items players.new.items }
+    requires { ArePlaying table.now.table_id layout seats.old.items players.old.items }
+    ensures plays { ArePlaying table.now.table_id layout seats.new.items players.new.items }
     ensures count { length players.new.items ≡ length players.old.items }
 {
     let (seat, count, last) = turns_of(row);
     assert!(rt; seat < players.len());
-    let (taken, step) = take_turns(table, seats, players, seat, count);
+    let (taken, step) = take_turns(table, layout, seats, players, seat, count);
     assert!(rt;
         taken == count && Some(step) == last,
         "{row}: {step:?} after {taken}"
@@ -161,19 +168,20 @@ fn see_turns<L: Sectors, D: Sectors>(
 fn play_all<L: Sectors, D: Sectors>(
     rt: &impl Abort,
     table: &Ring<L, D>,
+    layout: Layout,
     seats: &mut Vec<Seat<L, D>>,
     players: &mut Vec<Player<Tally>>,
     run: &Run,
 )
-    requires { ArePlaying table.now.table_id seats.old.items players.old.items }
-    ensures plays { ArePlaying table.now.table_id seats.new.items players.new.items }
+    requires { ArePlaying table.now.table_id layout seats.old.items players.old.items }
+    ensures plays { ArePlaying table.now.table_id layout seats.new.items players.new.items }
     ensures count { length players.new.items ≡ length players.old.items }
 {
     for row in run.turns.split_terminator(", ") {
-        see_turns(rt, table, seats, players, row);
+        see_turns(rt, table, layout, seats, players, row);
     }
     for _ in 0..run.rounds {
-        play_round(table, seats, players);
+        play_round(table, layout, seats, players);
     }
 }
 
@@ -194,7 +202,8 @@ fn left_by(rt: &impl Abort, alloc: Global, run: &Run) -> Result<Closed<Device, D
         mut seats,
         mut players,
     } = begin(alloc, run.text.as_bytes(), run.way)?;
-    play_all(rt, shared.ring(), &mut seats, &mut players, run);
+    let layout = shared.layout();
+    play_all(rt, shared.ring(), layout, &mut seats, &mut players, run);
     see_rest(rt, players.as_slice());
     let (closed, _actors) = shared.finish(seats, players, None);
     Ok(closed)

@@ -20,6 +20,7 @@ returns c =
         seats = subst (λ (o : Bool). AreSeatsOf (table_of S) o seats players) own
             (subst (λ (l : List (Player Kept)). AreSeatsOf (table_of S) (own_of S) seats l) c.as_slice.ensures.value
             c.seats-seats.ensures.seats);
+        laid = c.seats-seats.ensures.layout.1;
         plain = subst (λ (o : Bool). AreInOrder o players) c.requires.own c.requires.new.order;
       };
       all = subst (λ b. length players + workers b.shared.key.own_writes ≡ length (starts_about b.shared.key))

@@ -11,7 +11,7 @@ use Rattle.tests_threads.proofs.seats.turns.left_by.Goals as goal
 
 pub see_rest-requires : goal.see_rest-requires
 see_rest-requires g c = subst (λ (l : List (Player Kept)). AllMayRest l) (sym c.as_slice.ensures.value)
-    (seated_rest c.ring.result.now.table_id c.play_all.new.seats.items c.play_all.new.players.items
+    (seated_rest c.ring.result.now.table_id c.layout-layout.result c.play_all.new.seats.items c.play_all.new.players.items
     c.play_all.ensures.plays)
 
 pub finish-closed-requires-clause-seats : goal.finish-closed-requires-clause-seats
