@@ -166,7 +166,7 @@ fn filled(format: Format) -> [u8; 512] {
 // Of a format that isn't known.
 fn with_other_format() -> [u8; 512] {
     let mut head = filled(Format::One);
-    put(&mut head, 0, b"\0\0\0\x03");
+    put(&mut head, 0, b"\0\0\0\x04");
     seal(&mut head, 508);
     head
 }
@@ -197,8 +197,8 @@ fn heads_in_two_blocks(rt: HostRuntime) {
             &second,
             Head::Good(Format::One, SHAPE),
         );
-        see_head(&rt, &with_other_format(), &second, Head::OtherFormat(3));
-        see_head(&rt, &broken, &with_other_format(), Head::OtherFormat(3));
+        see_head(&rt, &with_other_format(), &second, Head::OtherFormat(4));
+        see_head(&rt, &broken, &with_other_format(), Head::OtherFormat(4));
         see_head(&rt, &with_other_start(), &second, Head::Unformatted);
     }
     see_head(&rt, &broken, &broken, Head::Unformatted);
