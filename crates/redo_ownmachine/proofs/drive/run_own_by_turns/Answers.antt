@@ -1,5 +1,6 @@
 -- The machine begins the run, its turns lead to the end, and what `finish` tells of that end is what the run comes to.
 use Rattle.std.proofs.Common.{Option, length, rules, subst, sym}
+use Rattle.std.proofs.lemmas.Result.{err_from_is_err_and}
 use Rattle.redo_archive.specs.Part.{Part}
 use Rattle.redo_drive.proofs.LogCount.{log_within_script}
 use Rattle.redo_drive.specs.Archived.{HaveArchived}
@@ -59,7 +60,15 @@ leads g c =
     }
 
 pub returns-in_err-machine : goal.returns-in_err-machine
-returns-in_err-machine g c = search rules
+returns-in_err-machine g c =
+    let p = err_from_is_err_and c.from_residual.result c.from_residual.ensures.1 in
+    record {
+      err = rw (p.1, p.2) c.in_err-machine.ensures.err;
+      owed = rw (p.1) tt;
+      turns = rw (p.1) tt;
+      followed = rw (p.1) tt;
+      archived = rw (p.1) tt;
+    }
 
 pub returns-clause-owed : goal.returns-clause-owed
 returns-clause-owed g c = owes g.L.Sectors.seen g.L.Sectors.gives g.D.Sectors.seen g.D.Sectors.gives g.A.Sectors.seen
