@@ -163,7 +163,7 @@ pub fn last_block(format: Format) -> u64
 {
     match format {
         Format::One => 531_968,
-        Format::Two => 530_944,
+        _ => 530_944,
     }
 }
 
