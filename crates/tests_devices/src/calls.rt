@@ -1,6 +1,7 @@
 // What the calls of the two sides answer, over devices in memory.
 ghost use Rattle.std.specs.Prelude.{◌≡◌, ◌<◌, length, None};
 ghost use Rattle.model_base.specs.{default_shape};
+ghost use Rattle.model_base.specs.declared.limits.TheConstants.{EARLY_SLOTS};
 
 use crate::parts::{DATA, LOG, START, USER, blank, data_part_on, log_part_on};
 use model_base::LSN_LIMIT;
@@ -32,7 +33,7 @@ fn log_calls_are_good_or_answer_1(rt: HostRuntime) -> Result<(), Fail> {
 /// Writes page 3.
 fn write_one<D: Sectors>(part: &mut DataPart<D>, lsn: u64, users: &[u8]) -> Result<(), DevError>
     requires live { part.old.failed ≡ None }
-    requires shape { part.old.shape ≡ default_shape }
+    requires shape { part.old.shape ≡ record default_shape { slots = EARLY_SLOTS } }
     requires small_lsn { lsn < LSN_LIMIT }
     requires count { length users.now ≡ USER }
 {

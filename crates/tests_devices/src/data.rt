@@ -1,9 +1,9 @@
 // A data part over devices that fail and crash as they are told.
 ghost use Rattle.std.specs.Prelude.{◌≡◌, ◌≤◌, ◌+◌, ◌<◌, ◌*◌, length, None, IfOk, OnOk};
 ghost use Rattle.model_base.specs.{default_shape};
+ghost use Rattle.model_base.specs.declared.limits.TheConstants.{EARLY_SLOTS};
 
-use crate::parts::{DATA, PAGE, USER, blank, data_part_on};
-use model_base::Shape;
+use crate::parts::{DATA, PAGE, USER, blank, data_part_on, early_shape};
 use redo_disk::{DevError, Sectors};
 use redo_memdisk::MemDisk;
 use redo_page::{PageState, best_copy, check, kept_page, seal};
@@ -26,7 +26,7 @@ fn read_all<D: Sectors>(alloc: Global, dev: &mut D) -> Result<Vec<u8>, Fail>
 /// A part on a device in memory that fails its call of number 2.
 fn failing(rt: &impl Abort, alloc: Global) -> Result<DataPart<MemDisk>, Fail>
     ensures live { IfOk result (λ part. part.failed ≡ None) }
-    ensures shape { IfOk result (λ part. part.shape ≡ default_shape) }
+    ensures shape { IfOk result (λ part. part.shape ≡ record default_shape { slots = EARLY_SLOTS }) }
     ensures size { IfOk result (λ part. (⟦<MemDisk as Sectors>⟧.seen part.dev).size ≡ DATA) }
 {
     let dev = MemDisk::failing(alloc, DATA, vec![in alloc; 2]?)?;
@@ -49,10 +49,10 @@ fn torn(rt: &impl Abort, alloc: Global) -> Result<MemDisk, Fail>
 #[test]
 fn a_torn_place_has_a_copy(rt: HostRuntime) -> Result<(), Fail> {
     let alloc = rt.alloc();
-    let shape = Shape::default_shape();
+    let shape = early_shape();
     let image = read_all(alloc, &mut torn(&rt, alloc)?)?;
-    assert!(rt; check(&image[131 * PAGE..132 * PAGE]) == PageState::Broken);
-    assert!(rt; image[131 * PAGE + 2047] == 7 && image[131 * PAGE + 2048] == 0);
+    assert!(rt; check(&image[11 * PAGE..12 * PAGE]) == PageState::Broken);
+    assert!(rt; image[11 * PAGE + 2047] == 7 && image[11 * PAGE + 2048] == 0);
     assert!(rt; best_copy(&image, &shape, 3) == Some((0, 9_000)));
     let kept = kept_page(alloc, &image, &shape, 3)?.ok_or("lost")?;
     assert!(rt; kept.lsn == 9_000 && kept.user.as_slice().first() == Some(&7));
@@ -62,10 +62,10 @@ fn a_torn_place_has_a_copy(rt: HostRuntime) -> Result<(), Fail> {
 /// The place of a page.
 fn place_of<D: Sectors>(part: &mut DataPart<D>, page: u32) -> Result<[u8; PAGE], DevError>
     requires live { part.old.failed ≡ None }
-    requires shape { part.old.shape ≡ default_shape }
+    requires shape { part.old.shape ≡ record default_shape { slots = EARLY_SLOTS } }
     requires page { page < default_shape.pages }
     ensures live { OnOk result (part.new.failed ≡ None) }
-    ensures shape { part.new.shape ≡ default_shape }
+    ensures shape { part.new.shape ≡ record default_shape { slots = EARLY_SLOTS } }
 {
     let mut place = [0; PAGE];
     part.read_page(page, &mut place)?;
@@ -89,7 +89,7 @@ fn tear<D: Sectors>(dev: &mut D) -> Result<(), DevError>
 {
     put_copy(dev, 1, 9_000)?;
     put_copy(dev, 6, 8_500)?;
-    dev.write(133 * PAGE as u64, &[9; 512])?;
+    dev.write(13 * PAGE as u64, &[9; 512])?;
     dev.sync()
 }
 
@@ -105,7 +105,7 @@ fn torn_five(alloc: Global) -> Result<MemDisk, Fail>
 /// The copy of page 4 that counts, and the one after a batch that has the page.
 fn copies_of_four<D: Sectors>(part: &mut DataPart<D>) -> Result<[Option<(u32, u64)>; 2], DevError>
     requires live { part.old.failed ≡ None }
-    requires shape { part.old.shape ≡ default_shape }
+    requires shape { part.old.shape ≡ record default_shape { slots = EARLY_SLOTS } }
 {
     let before = part.best_copy(4)?;
     part.put_batch(&[(4, 9_200)], &[3; USER])?;

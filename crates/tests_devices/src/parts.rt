@@ -1,8 +1,9 @@
 // Devices in memory, and parts on them.
 ghost use Rattle.std.specs.Prelude.{◌≡◌, ◌≤◌, ◌+◌, ◌%◌, IfOk, None};
 ghost use Rattle.model_base.specs.{default_shape};
+ghost use Rattle.model_base.specs.declared.limits.TheConstants.{EARLY_SLOTS};
 
-use model_base::Shape;
+use model_base::{EARLY_SLOTS, Shape};
 use redo_disk::Sectors;
 use redo_logdev::LogPart;
 use redo_memdisk::MemDisk;
@@ -22,8 +23,8 @@ pub const SHAPE: Shape = Shape {
 /// Bytes of the log device.
 pub const LOG: u64 = 526_336;
 
-/// Bytes of the data device: 128 slots and eight places.
-pub const DATA: u64 = 557_056;
+/// Bytes of the data device: eight slots and eight places.
+pub const DATA: u64 = 65_536;
 
 /// Bytes of a page.
 pub const PAGE: usize = 4096;
@@ -58,14 +59,24 @@ pub fn log_part_on<L: Sectors + Drop>(rt: &impl Abort, alloc: Global, device: L)
     part
 }
 
-/// A part of a default store on a device.
+/// The default sizes of a store of format 2.
+pub fn early_shape() -> Shape
+    ensures { result ≡ record default_shape { slots = EARLY_SLOTS } }
+{
+    Shape {
+        slots: EARLY_SLOTS,
+        ..Shape::default_shape()
+    }
+}
+
+/// A part of such a store on a device.
 pub fn data_part_on<D: Sectors + Drop>(rt: &impl Abort, alloc: Global, device: D) -> DataPart<D>
     requires { DATA ≤ (D.seen device).size }
     ensures live { result.failed ≡ None }
-    ensures shape { result.shape ≡ default_shape }
+    ensures shape { result.shape ≡ record default_shape { slots = EARLY_SLOTS } }
     ensures dev { result.dev ≡ device }
 {
-    let Ok(part) = DataPart::new(alloc, device, &Shape::default_shape()) else {
+    let Ok(part) = DataPart::new(alloc, device, &early_shape()) else {
         panic!(rt; "no memory");
     };
     part
