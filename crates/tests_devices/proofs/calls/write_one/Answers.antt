@@ -1,6 +1,7 @@
 use Rattle.std.proofs.Common.{List, Some, [], ap, arith, length, subst, suc, sym, zero, ℕ, ◌<◌, ◌^◌, ◌∷◌, ◌≡◌}
 use Rattle.std.specs.List.{slice_get}
 use Rattle.model_base.specs.{default_shape, user_length}
+use Rattle.model_base.specs.declared.limits.TheConstants.{EARLY_SLOTS}
 use Rattle.model_base.specs.declared.shape.Shape.{Shape}
 use Rattle.model_parts.specs.{IsWritable}
 use Rattle.tests_devices.proofs.calls.write_one.Goals as goal
@@ -14,8 +15,12 @@ in-one lsn zero pair at =
     (omega arith, sym (ap (λ (x : ℕ × ℕ). x.0) same), sym (ap (λ (x : ℕ × ℕ). x.1) same))
 in-one lsn (suc i) pair at = absurd cc
 
-one-writable : (lsn : ℕ) (users : List ℕ) → lsn < 2 ^ 60 → length users ≡ user_length default_shape
-    → IsWritable default_shape (one lsn) users
+-- the default sizes of a store of format 2
+abbrev early : Shape
+early = record default_shape { slots = EARLY_SLOTS }
+
+one-writable : (lsn : ℕ) (users : List ℕ) → lsn < 2 ^ 60 → length users ≡ user_length early
+    → IsWritable early (one lsn) users
 one-writable lsn users small count = record {
   few = omega arith;
   count = count;
