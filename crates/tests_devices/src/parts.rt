@@ -1,9 +1,9 @@
 // Devices in memory, and parts on them.
 ghost use Rattle.std.specs.Prelude.{◌≡◌, ◌≤◌, ◌+◌, ◌%◌, IfOk, None};
-ghost use Rattle.model_base.specs.{default_shape};
+ghost use Rattle.model_base.specs.{default_shape, IsWithinLimits};
 ghost use Rattle.model_base.specs.declared.limits.TheConstants.{EARLY_SLOTS};
 
-use model_base::{EARLY_SLOTS, Shape};
+use model_base::{DEFAULT_LOG_BLOCKS, DEFAULT_PAGES, DEFAULT_SPACE, EARLY_SLOTS, PAGE_SIZE, Shape};
 use redo_disk::Sectors;
 use redo_logdev::LogPart;
 use redo_memdisk::MemDisk;
@@ -60,12 +60,17 @@ pub fn log_part_on<L: Sectors + Drop>(rt: &impl Abort, alloc: Global, device: L)
 }
 
 /// The default sizes of a store of format 2.
+#[tactic(auto, using(crate::proofs::Early::early_within))]
 pub fn early_shape() -> Shape
-    ensures { result ≡ record default_shape { slots = EARLY_SLOTS } }
+    ensures shape { result ≡ record default_shape { slots = EARLY_SLOTS } }
+    ensures limits { IsWithinLimits result }
 {
     Shape {
+        page_size: PAGE_SIZE,
+        pages: DEFAULT_PAGES,
+        space: DEFAULT_SPACE,
+        log_blocks: DEFAULT_LOG_BLOCKS,
         slots: EARLY_SLOTS,
-        ..Shape::default_shape()
     }
 }
 
