@@ -49,7 +49,7 @@ const FORMAT: &str = "format --pages 6 --log-blocks 1024";
 
 const SMALL_LOG: u64 = 526_336;
 
-const SMALL_STORE: u64 = 57_344;
+const SMALL_STORE: u64 = 548_864;
 
 /// A page with this lsn, as it is printed: not at all where it was never written.
 fn page_line(alloc: Global, page: u32, lsn: u64, user: &str) -> Result<String, AllocError> {

@@ -76,7 +76,8 @@ same | run                                          | 1 f i 4        | 10 | faul
     )
 }
 
-/// A page has 16,384 bytes, of which the last that is written is the one at 16375.
+/// A page has 16,384 bytes, of which the last that is written is the one at 16375. A run whose script doesn't fit has opened the
+/// store, so the next one makes checkpoint 2.
 #[test]
 fn runs_on_a_store_of_large_pages(rt: HostRuntime) -> Result<(), Fail> {
     play(
@@ -85,7 +86,7 @@ fn runs_on_a_store_of_large_pages(rt: HostRuntime) -> Result<(), Fail> {
 large data | format --page-size 16384 |                  |  0 | formatted 8192
 same       | run                      | 1 f b2 3 16375 7 | 10 | fault fit offset 16375
 same       | run                      | 1 f b2 3 16374 7 |  0 | open 8204 / g 8204 8210 1 0 flushed / marks 8210 8210 8210 8192
-same       | dump                     |                  |  0 | store 16384 8 1 2048 128 / checkpoint 1 8192 / block 8192 17 18 12 0 / group 8204 8210 1 / rec b2 3 16374 7 / end 8210
+same       | dump                     |                  |  0 | store 16384 8 1 2048 128 / checkpoint 2 8192 / block 8192 17 18 12 0 / group 8204 8210 1 / rec b2 3 16374 7 / end 8210
 same       | recover                  |                  |  0 | read 1 8210 / p 3 8210 (00*16337)07
 same       | crash                    | 1 f b2 3 16374 8 |  0 | open 8716 / g 8716 8722 1 0 flushed / marks 8722 8722 8722 8704 / recovered 1 8722 / p 3 8722 (00*16337)08
 same       | crash --threads          | 1 f b2 3 16375 8 | 10 | fault fit offset 16375
