@@ -4,7 +4,7 @@ ghost use Rattle.model_base.specs.declared.limits.TheConstants.{BLOCK_SIZE, DEFA
 ghost use Rattle.model_log.specs.{block_of, lsn_of, sn_of};
 ghost use Rattle.model_log.specs.declared.layout.TheConstants.{BLOCK_DATA, BLOCK_HEADER};
 
-use crate::parts::{DATA, START, blank};
+use crate::parts::{DATA, START, blank, early_shape};
 use model_base::{BLOCK_SIZE, LSN_LIMIT, START_LSN, Shape};
 use model_log::{BLOCK_DATA, BLOCK_HEADER, Format};
 use redo_disk::{DevError, Sectors};
@@ -94,7 +94,7 @@ fn lay<L: Sectors>(rt: &impl Abort, device: &mut L, number: u64, start: u64) -> 
     requires first { FIRST_DATA_LSN ≤ start }
     requires small { start < LSN_LIMIT }
 {
-    let shape = Shape::default_shape();
+    let shape = early_shape();
     let mut block = [0; 512];
     fill_head(&mut block, Format::Two, &shape);
     put(rt, device, 0, &block)?;
