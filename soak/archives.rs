@@ -51,6 +51,9 @@ struct Tally {
     answers: BTreeMap<&'static str, u64>,
     /// Archives of which something was restored.
     sound: u64,
+    /// Archives of large pages, and those of them of which something was restored.
+    large: u64,
+    large_sound: u64,
 }
 
 struct Soak {
@@ -72,7 +75,8 @@ impl Case {
     fn of(seed: u64) -> Case {
         let mut draws = Draws::new(seed);
         let kind = draws.below(8);
-        let mut archive = Archive::draw(&mut draws, kind == 1 || kind == 2);
+        let mut beside = Draws::beside(seed);
+        let mut archive = Archive::draw(&mut draws, &mut beside, kind == 1 || kind == 2);
         if kind > 1 {
             damaging::damage(&mut draws, &mut archive);
         }
@@ -171,15 +175,18 @@ impl Soak {
                 return Err(format!("`restore` has written to {other}"));
             }
         }
-        self.count(&answers);
+        self.count(&answers, case.archive.shape.is_large());
         Ok(())
     }
 
-    fn count(&self, answers: &[&'static str]) {
+    fn count(&self, answers: &[&'static str], is_large: bool) {
         let mut tally = self.tally.lock().unwrap();
         tally.archives += 1;
         tally.calls += answers.len() as u64;
-        tally.sound += u64::from(answers.contains(&"restored"));
+        let is_sound = answers.contains(&"restored");
+        tally.sound += u64::from(is_sound);
+        tally.large += u64::from(is_large);
+        tally.large_sound += u64::from(is_large && is_sound);
         for name in answers {
             *tally.answers.entry(name).or_default() += 1;
         }
@@ -250,9 +257,11 @@ fn main() {
         .map(|(name, times)| format!("{name} {times}"))
         .collect();
     println!(
-        "{} archives, {} of them restored for some lsn, {} calls: {}; {failures} failures, {} seconds",
+        "{} archives, {} of them restored for some lsn, {} of large pages and {} of these restored, {} calls: {}; {failures} failures, {} seconds",
         tally.archives,
         tally.sound,
+        tally.large,
+        tally.large_sound,
         tally.calls,
         told.join(", "),
         start.elapsed().as_secs()

@@ -1,17 +1,21 @@
 //! Sound archives that a seed makes: a head, two marks, the pages with which a run was opened, and its log blocks.
 
-use crate::crc::{PAGE, SECTOR, crc32c, put_field, seal_sector};
+use crate::crc::{SECTOR, crc32c, put_field, seal_sector};
 use crate::draws::Draws;
 use crate::lsn::{BLOCK, BLOCK_DATA, BLOCK_HEADER, FIRST, behind, block_of, lsn_of, sn_of};
 use crate::restoring::{HEADER, LIMIT};
-use crate::script::{MOST_BYTES, Op, USER_END, USER_START};
-use crate::shape::{EARLY_SLOTS, SLOTS, Shape, put_sizes};
+use crate::script::{MOST_BYTES, Op, USER_START};
+use crate::shape::{EARLY_SLOTS, LARGE_PAGE_SIZE, PAGE_SIZE, SLOTS, Shape, put_sizes};
 use crate::spoiling::{spoil_texts, text_of};
 use std::collections::BTreeMap;
 
 const NUMBERS_GO_ROUND: u64 = BLOCK << 30;
 /// More bytes of groups than this don't come together.
 const MOST_TEXT: usize = 60_000;
+/// A string has no more bytes than this, beside what else stands in its group.
+const MOST_STRING: u64 = 8_000;
+/// More large pages than this take long.
+const MOST_LARGE_PAGES: u32 = 64;
 
 /// An archive, and what its seed made of it.
 pub struct Archive {
@@ -25,9 +29,9 @@ pub struct Archive {
 }
 
 impl Archive {
-    /// A sound archive, or one whose blocks hold what isn't all groups.
-    pub fn draw(draws: &mut Draws, spoils: bool) -> Archive {
-        let shape = draw_shape(draws);
+    /// A sound archive, or one whose blocks hold what isn't all groups. From beside comes the size of its pages alone.
+    pub fn draw(draws: &mut Draws, beside: &mut Draws, spoils: bool) -> Archive {
+        let shape = draw_shape(draws, beside);
         let start = draw_start(draws);
         let mut texts = draw_texts(draws, &shape);
         if spoils {
@@ -97,10 +101,18 @@ pub fn ends_of(start: u64, texts: &[Vec<u8>]) -> Vec<u64> {
     ends.collect()
 }
 
-fn draw_shape(draws: &mut Draws) -> Shape {
+fn draw_shape(draws: &mut Draws, beside: &mut Draws) -> Shape {
     let slots = draws.one_of(&[EARLY_SLOTS, SLOTS, SLOTS]);
+    let pages = draw_pages(draws, slots);
+    let is_large = slots == SLOTS && beside.once_in(3);
+    let (page_size, most) = if is_large {
+        (LARGE_PAGE_SIZE, MOST_LARGE_PAGES)
+    } else {
+        (PAGE_SIZE, pages)
+    };
     Shape {
-        pages: draw_pages(draws, slots),
+        page_size,
+        pages: pages.min(most),
         space: draws.one_of(&[0, 1, 1, 127, 128, 16_384, u32::MAX - 70_000, u32::MAX]),
         log_blocks: draws.one_of(&[1_024, 1_025, 2_048, 2_048, 1_048_576]),
         slots,
@@ -165,16 +177,16 @@ fn draw_op(draws: &mut Draws, shape: &Shape, is_wide: bool) -> Op {
         0 => Op::Clear { page },
         1..=4 => {
             let most = match draws.below(3) {
-                0 if is_wide => 4_050,
+                0 if is_wide => shape.user_length().min(MOST_STRING),
                 1 => 600,
                 _ => 20,
             };
             let length = draws.within(1, most);
-            string(draws, page, length)
+            string(draws, shape, page, length)
         }
         _ => {
             let width = draws.one_of(&[1, 2, 4, 8]);
-            let last = USER_END - u64::from(width);
+            let last = shape.user_end() - u64::from(width);
             let offset = match draws.below(6) {
                 0 => USER_START,
                 1 => last,
@@ -200,8 +212,8 @@ fn draw_value(draws: &mut Draws, width: u32) -> u64 {
     }
 }
 
-fn string(draws: &mut Draws, page: u32, length: u64) -> Op {
-    let offset = draws.within(USER_START, USER_END - length) as u32;
+fn string(draws: &mut Draws, shape: &Shape, page: u32, length: u64) -> Op {
+    let offset = draws.within(USER_START, shape.user_end() - length) as u32;
     let bytes = (0..length).map(|_| draws.number() as u8).collect();
     Op::Bytes {
         page,
@@ -213,21 +225,21 @@ fn string(draws: &mut Draws, page: u32, length: u64) -> Op {
 /// A group that ends where a block does, behind so many bytes of others.
 fn draw_filling(draws: &mut Draws, shape: &Shape, total: usize) -> Vec<u8> {
     let page = draws.below(u64::from(shape.pages)) as u32;
-    let front = text_of(vec![string(draws, page, 1)], shape.space).len() as u64 - 1;
+    let front = text_of(vec![string(draws, shape, page, 1)], shape.space).len() as u64 - 1;
     let rest = BLOCK_DATA - total as u64 % BLOCK_DATA;
     let blocks = BLOCK_DATA * draws.below(3);
     let least = front + 1;
     let length = rest + blocks + if rest + blocks < least { BLOCK_DATA } else { 0 };
-    let op = string(draws, page, length - front);
+    let op = string(draws, shape, page, length - front);
     text_of(vec![op], shape.space)
 }
 
 /// A group of as many bytes as there may be.
 fn draw_longest(draws: &mut Draws, shape: &Shape) -> Vec<u8> {
-    let whole = |draws: &mut Draws| string(draws, 0, 3_000);
-    let mut ops = vec![whole(draws), whole(draws), string(draws, 0, 1)];
+    let whole = |draws: &mut Draws| string(draws, shape, 0, 3_000);
+    let mut ops = vec![whole(draws), whole(draws), string(draws, shape, 0, 1)];
     let length = text_of(ops.clone(), shape.space).len() as u64;
-    ops[2] = string(draws, 0, 1 + MOST_BYTES - length);
+    ops[2] = string(draws, shape, 0, 1 + MOST_BYTES - length);
     text_of(ops, shape.space)
 }
 
@@ -284,16 +296,16 @@ pub fn put_mark(bytes: &mut [u8], number: u64, lsn: u64) {
 
 /// Makes a page's checksums and the low half of its lsn fit.
 pub fn seal_page(page: &mut [u8]) {
-    let low = page[20..24].to_vec();
-    page[PAGE - 4..].copy_from_slice(&low);
-    let sum = u64::from(crc32c(&page[4..PAGE - 8]));
+    let end = page.len();
+    page.copy_within(20..24, end - 4);
+    let sum = u64::from(crc32c(&page[4..end - 8]));
     put_field(page, 0, 4, sum);
-    put_field(page, PAGE - 8, 4, sum);
+    put_field(page, end - 8, 4, sum);
 }
 
 /// A page with which a run was opened: blank, or with an lsn that is mostly below the run's start.
 fn draw_page(draws: &mut Draws, shape: &Shape, number: u32, start: u64) -> Vec<u8> {
-    let mut page = vec![0; PAGE];
+    let mut page = vec![0; shape.page_length()];
     if draws.once_in(3) {
         return page;
     }
@@ -307,12 +319,12 @@ fn draw_page(draws: &mut Draws, shape: &Shape, number: u32, start: u64) -> Vec<u
     put_field(&mut page, 16, 8, lsn);
     put_field(&mut page, 34, 4, u64::from(shape.space));
     for _ in 0..draws.below(6) {
-        let at = draws.within(USER_START, USER_END - 8) as usize;
+        let at = draws.within(USER_START, shape.user_end() - 8) as usize;
         let value = draws.number() >> draws.below(64);
         put_field(&mut page, at, 8, value);
     }
     if draws.once_in(8) {
-        page[USER_END as usize - 1] = draws.number() as u8;
+        page[shape.user_end() as usize - 1] = draws.number() as u8;
     }
     seal_page(&mut page);
     page

@@ -13,7 +13,7 @@ use crate::places::Place;
 use crate::program::{Call, Program, words_of};
 use crate::report::Report;
 use crate::script::{Line, misfit};
-use crate::shape::{DEFAULT_SHAPE, Shape};
+use crate::shape::{DEFAULT_SHAPE, Shape, draw_large};
 use crate::times::Times;
 use std::fs;
 use std::path::Path;
@@ -41,6 +41,8 @@ pub struct Tally {
     pub archived_own: u64,
     pub restored: u64,
     pub chains: u64,
+    /// How often a store of large pages was formatted.
+    pub large_pages: u64,
     /// How often a log has gone round.
     pub rounds: u64,
     pub refused: u64,
@@ -62,6 +64,7 @@ impl Tally {
         self.archived_own += other.archived_own;
         self.restored += other.restored;
         self.chains += other.chains;
+        self.large_pages += other.large_pages;
         self.rounds += other.rounds;
         self.refused += other.refused;
     }
@@ -363,11 +366,8 @@ impl Case<'_> {
             log_blocks: self.draws.one_of(&[1_024, 2_047, 2_048, 2_048, 2_049]),
             ..DEFAULT_SHAPE
         };
-        let Shape {
-            pages, log_blocks, ..
-        } = shape;
-        let words = format!("format --pages {pages} --log-blocks {log_blocks}");
-        let call = self.call(&words_of(&words), "")?;
+        let shape = draw_large(&mut self.beside, shape);
+        let call = self.call(&words_of(&format!("format {}", shape.words())), "")?;
         let (log, store) = (shape.log_length(), shape.data_length());
         if DEFAULT_SHAPE.log_length() < log {
             call.answers(10, &format!("fault fit log {log}\n"))
@@ -410,6 +410,11 @@ impl Case<'_> {
             "gen 1 17 1",
             "gen 1 1 1000001",
             "gen 1 1 1 1",
+            "format --page-size",
+            "format --page-size 0",
+            "format --page-size 8192",
+            "format --page-size 65536",
+            "run --page-size 4096",
             "format --pages 0",
             "format --pages 1025",
             "format --space 4294967296",

@@ -4,7 +4,7 @@ use crate::case::{ARCHIVE_FILE, Case, Left};
 use crate::checking::Store;
 use crate::listing::{check_dump, check_recover, read_of};
 use crate::program::words_of;
-use crate::shape::{DEFAULT_SHAPE, SLOTS, Shape};
+use crate::shape::{DEFAULT_SHAPE, SLOTS, Shape, draw_large};
 use std::fs;
 
 pub struct Chain<'a, 'b> {
@@ -78,15 +78,11 @@ impl<'a, 'b> Chain<'a, 'b> {
                 draws.one_of(&[1_024, 1_025, 1_500, DEFAULT_SHAPE.log_blocks])
             },
             slots: SLOTS,
+            ..DEFAULT_SHAPE
         };
-        let Shape {
-            pages,
-            space,
-            log_blocks,
-            ..
-        } = shape;
-        let text =
-            format!("format --files --pages {pages} --space {space} --log-blocks {log_blocks}");
+        let shape = draw_large(&mut self.case.beside, shape);
+        self.case.tally.large_pages += u64::from(shape.is_large());
+        let text = format!("format --files {}", shape.words());
         let call = self.case.call(&words_of(&text), "")?;
         call.answers(0, "formatted 8192\n")?;
         self.store = Store::new(shape);

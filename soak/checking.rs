@@ -34,7 +34,7 @@ impl Store {
         Store {
             shape,
             end: FIRST,
-            pages: Pages::blank(shape.pages),
+            pages: Pages::blank(&shape),
             log: Vec::new(),
             starts: vec![FIRST],
             checkpoint: FIRST - BLOCK_HEADER,

@@ -1,7 +1,6 @@
 //! CRC-32C, and which sectors and pages fit their checksums.
 
 pub const SECTOR: usize = 512;
-pub const PAGE: usize = 4_096;
 
 const fn table_of() -> [[u32; 256]; 8] {
     let mut table = [[0; 256]; 8];
@@ -76,10 +75,11 @@ fn is_blank(page: &[u8]) -> bool {
 
 /// Whether a page's checksums and its lsn fit.
 fn is_sound(page: &[u8]) -> bool {
-    let sum = u64::from(crc32c(&page[4..PAGE - 8]));
+    let end = page.len();
+    let sum = u64::from(crc32c(&page[4..end - 8]));
     field(page, 0, 4) == sum
-        && field(page, PAGE - 8, 4) == sum
-        && field(page, PAGE - 4, 4) == field(page, 20, 4)
+        && field(page, end - 8, 4) == sum
+        && field(page, end - 4, 4) == field(page, 20, 4)
 }
 
 /// Whether a page counts as one: all zero, or with checksums and an lsn that fit.

@@ -1,10 +1,11 @@
 //! Damages archives: their bits, sectors, marks, heads, pages and blocks, with checksums that fit again or not.
 
 use crate::archiving::{Archive, put_mark, seal_page};
-use crate::crc::{PAGE, SECTOR, field, put_field, seal_sector};
+use crate::crc::{SECTOR, field, put_field, seal_sector};
 use crate::draws::Draws;
 use crate::lsn::{BLOCK, BLOCK_HEADER, block_of};
 use crate::restoring::{DEVICE, HEADER, LIMIT};
+use crate::shape::PAGE_SIZE;
 
 /// Some damages to an archive.
 pub fn damage(draws: &mut Draws, archive: &mut Archive) {
@@ -31,7 +32,7 @@ enum Source {
 }
 
 fn first_block(archive: &Archive) -> usize {
-    HEADER + archive.shape.pages as usize * PAGE
+    HEADER + archive.shape.pages as usize * archive.shape.page_length()
 }
 
 /// The number of a sector: one of the first three, of the pages, or of the log blocks.
@@ -56,8 +57,9 @@ fn seal(archive: &mut Archive, number: usize) {
     let pages = HEADER..first_block(archive);
     let at = number * SECTOR;
     if pages.contains(&at) {
-        let at = HEADER + (at - HEADER) / PAGE * PAGE;
-        if let Some(page) = archive.bytes.get_mut(at..at + PAGE) {
+        let length = archive.shape.page_length();
+        let at = HEADER + (at - HEADER) / length * length;
+        if let Some(page) = archive.bytes.get_mut(at..at + length) {
             seal_page(page);
         }
     } else if let Some(sector) = sector_at(archive, number) {
@@ -188,6 +190,7 @@ fn change_head(draws: &mut Draws, archive: &mut Archive) {
     }
     let head = &mut archive.bytes[..SECTOR];
     let start = archive.start;
+    let page_size = u64::from(archive.shape.page_size);
     let (at, length, value) = match draws.below(12) {
         0 => (0, 4, draws.one_of(&[0, 2, 0x100_0001])),
         1 => (4, 4, draws.below(3)),
@@ -199,11 +202,10 @@ fn change_head(draws: &mut Draws, archive: &mut Archive) {
             start.wrapping_add(draws.one_of(&[1, 512, u64::MAX - 511])),
         ),
         5 => (16, 8, draws.number()),
-        6 => (
-            48,
-            4,
-            draws.one_of(&[0, 2_048, 4_095, 8_192, 16_384, 65_536]),
-        ),
+        6 => match draws.one_of(&[0, 2_048, 4_095, 8_192, 16_384, 65_536]) {
+            size if size == page_size => (48, 4, PAGE_SIZE.into()),
+            size => (48, 4, size),
+        },
         7 => (
             52,
             4,
@@ -226,9 +228,10 @@ fn change_head(draws: &mut Draws, archive: &mut Archive) {
 
 fn change_page(draws: &mut Draws, archive: &mut Archive) {
     let number = draws.below(u64::from(archive.shape.pages));
-    let at = HEADER + number as usize * PAGE;
+    let length = archive.shape.page_length();
+    let at = HEADER + number as usize * length;
     let space = archive.shape.space;
-    let Some(page) = archive.bytes.get_mut(at..at + PAGE) else {
+    let Some(page) = archive.bytes.get_mut(at..at + length) else {
         return;
     };
     match draws.below(9) {
@@ -239,18 +242,18 @@ fn change_page(draws: &mut Draws, archive: &mut Archive) {
             put_field(page, 16, 8, lsn);
         }
         3 => page.fill(0),
-        4 => page[draws.below(PAGE as u64) as usize] = draws.number() as u8,
+        4 => page[draws.below(length as u64) as usize] = draws.number() as u8,
         5 => put_field(page, 8, 8, draws.number()),
         6 => put_field(page, 24, 8, draws.number()),
-        7 => page[PAGE - draws.within(1, 8) as usize] ^= 1,
+        7 => page[length - draws.within(1, 8) as usize] ^= 1,
         _ => page[draws.below(40) as usize] ^= 1 << draws.below(8),
     }
     if !draws.once_in(3) {
         // at times the low half of the lsn stays as it is
-        let low = field(page, PAGE - 4, 4);
+        let low = field(page, length - 4, 4);
         seal_page(page);
         if draws.once_in(6) {
-            put_field(page, PAGE - 4, 4, low ^ draws.below(2));
+            put_field(page, length - 4, 4, low ^ draws.below(2));
         }
     }
 }

@@ -22,7 +22,7 @@ use crate::program::{Call, words_of};
 use crate::report::Report;
 use crate::restoring::Reading;
 use crate::script::{Line, MOST_BYTES, group_length, misfit};
-use crate::shape::{DEFAULT_SHAPE, EARLY_SLOTS, MOST_EARLY_PAGES, SLOTS, Shape};
+use crate::shape::{DEFAULT_SHAPE, EARLY_SLOTS, MOST_EARLY_PAGES, SLOTS, Shape, draw_large};
 use crate::since::{Run, Since};
 use crate::tally::Tally;
 use crate::tears::{Cut, draw_junk};
@@ -370,7 +370,7 @@ impl<'a> History<'a> {
 
     fn draw_shape(&mut self) -> Shape {
         let draws = &mut self.draws;
-        Shape {
+        let shape = Shape {
             pages: draws.one_of(&PAGES),
             space: draws.one_of(&[0, 1, 1, 128, u32::MAX]),
             log_blocks: if self.is_wide {
@@ -379,21 +379,15 @@ impl<'a> History<'a> {
                 draws.one_of(&[1_024, 1_024, 1_025, 1_500, DEFAULT_SHAPE.log_blocks])
             },
             slots: SLOTS,
-        }
+            ..DEFAULT_SHAPE
+        };
+        draw_large(&mut self.beside, shape)
     }
 
     /// Formats the devices, over a store or not, and mostly cuts the power in between.
     fn format(&mut self) -> Result<(), String> {
         let shape = self.draw_shape();
-        let Shape {
-            pages,
-            space,
-            log_blocks,
-            ..
-        } = shape;
-        let words =
-            format!("format --files --pages {pages} --space {space} --log-blocks {log_blocks}");
-        let words = words_of(&words);
+        let words = words_of(&format!("format --files {}", shape.words()));
         let asking = || Asking {
             words: &words,
             script: "",
@@ -630,6 +624,7 @@ impl<'a> History<'a> {
         self.tally.groups += report.entries.len() as u64;
         self.tally.early += u64::from(shape.slots == EARLY_SLOTS);
         self.tally.large += u64::from(shape.pages > MOST_EARLY_PAGES);
+        self.tally.large_pages += u64::from(shape.is_large());
         self.tally.threads += u64::from(options.threads);
         self.tally.followed += u64::from(options.followers > 0);
         self.tally.stops += u64::from(report.tells_failure());

@@ -2,7 +2,7 @@
 
 use crate::crc::{SECTOR, field, fits_sector, put_field, seal_sector};
 use crate::lsn::{BLOCK, BLOCK_HEADER};
-use crate::shape::{MOST_EARLY_PAGES, Shape, put_sizes, shape_of};
+use crate::shape::{MOST_EARLY_PAGES, PAGE_SIZE, Shape, put_sizes, shape_of};
 
 pub const START: u64 = 8_192;
 /// The sectors of the heads; format 1 has the first alone.
@@ -51,7 +51,10 @@ impl Head {
 
     /// Whether a store of an older format may have the same pages.
     pub fn may_be_older(&self) -> bool {
-        self.format > 1 && self.shape.pages <= MOST_EARLY_PAGES
+        let Shape {
+            page_size, pages, ..
+        } = self.shape;
+        self.format > 1 && page_size == PAGE_SIZE && pages <= MOST_EARLY_PAGES
     }
 
     fn first_block(&self) -> u64 {

@@ -61,8 +61,8 @@ pub fn check_dump(store: &mut Store, format: u64, text: &str) -> Result<usize, S
     let mut lines = text.split_inclusive('\n').peekable();
     let shape = &store.shape;
     let wanted = format!(
-        "store 4096 {} {} {} {}\n",
-        shape.pages, shape.space, shape.log_blocks, shape.slots
+        "store {} {} {} {} {}\n",
+        shape.page_size, shape.pages, shape.space, shape.log_blocks, shape.slots
     );
     if lines.next() != Some(&wanted) {
         return Err(format!("`dump` should begin with {wanted}"));

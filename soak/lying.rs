@@ -12,7 +12,7 @@ use crate::options::{Options, draw_turns};
 use crate::program::{Call, Program, words_of};
 use crate::reads::{About, Lie, Read, reads_of};
 use crate::script::{MOST_BYTES, group_length};
-use crate::shape::{DEFAULT_SHAPE, MOST_EARLY_PAGES, MOST_PAGES, Shape};
+use crate::shape::{DEFAULT_SHAPE, MOST_EARLY_PAGES, MOST_PAGES, Shape, draw_large};
 use crate::unlike::prepare;
 use std::fs;
 use std::path::{Path, PathBuf};
@@ -188,8 +188,13 @@ impl<'a> Lying<'a> {
             Command::Dump => words_of("dump --why --files"),
             Command::Format => {
                 let most = self.draws.one_of(&[MOST_EARLY_PAGES, MOST_PAGES]);
-                let pages = self.draws.within(1, most.into());
-                words_of(&format!("format --files --pages {pages} --log-blocks 1024"))
+                let shape = Shape {
+                    pages: self.draws.within(1, most.into()) as u32,
+                    log_blocks: 1_024,
+                    ..DEFAULT_SHAPE
+                };
+                let shape = draw_large(&mut self.draws, shape);
+                words_of(&format!("format --files {}", shape.words()))
             }
         };
         let script = if is_run {

@@ -168,7 +168,7 @@ fn main() {
     }
     let tally = soak.tally.lock().unwrap();
     println!(
-        "{runs} runs, {} calls, {} groups, {} crashes, {} stops that hit, {} runs in threads, {} of them on one or two processors and {} with refused threads, {} runs with followers, {} of users that write for themselves, {} that are archived, {} of them in threads and {} of users that write for themselves, with {} restored lsns, {} chains, {} rounds of a log, {} refused, {failures} failures, {} seconds",
+        "{runs} runs, {} calls, {} groups, {} crashes, {} stops that hit, {} runs in threads, {} of them on one or two processors and {} with refused threads, {} runs with followers, {} of users that write for themselves, {} that are archived, {} of them in threads and {} of users that write for themselves, with {} restored lsns, {} chains, {} stores of large pages formatted in them, {} rounds of a log, {} refused, {failures} failures, {} seconds",
         tally.calls,
         tally.groups,
         tally.crashes,
@@ -183,6 +183,7 @@ fn main() {
         tally.archived_own,
         tally.restored,
         tally.chains,
+        tally.large_pages,
         tally.rounds,
         tally.refused,
         start.elapsed().as_secs()

@@ -1,7 +1,7 @@
 //! Scripts that a seed makes, and their texts.
 
 use crate::draws::Draws;
-use crate::script::{Line, MOST_USERS, Mode, Op, USER_END, USER_START};
+use crate::script::{Line, MOST_USERS, Mode, Op, USER_START};
 use crate::shape::Shape;
 use std::fmt::Write;
 
@@ -118,7 +118,7 @@ fn draw_op(draws: &mut Draws, shape: &Shape, taste: Taste) -> Op {
     }
     if draws.below(12) < taste.strings {
         let length = draws.within(taste.least_bytes, taste.most_bytes);
-        let offset = draws.within(USER_START, USER_END - length) as u32;
+        let offset = draws.within(USER_START, shape.user_end() - length) as u32;
         let bytes = (0..length).map(|_| draws.number() as u8).collect();
         return Op::Bytes {
             page,
@@ -127,10 +127,11 @@ fn draw_op(draws: &mut Draws, shape: &Shape, taste: Taste) -> Op {
         };
     }
     let width = draws.one_of(&[1, 2, 4, 8]);
+    let last = shape.user_end() - u64::from(width);
     let offset = match draws.below(8) {
         0 => USER_START,
-        1 => USER_END - u64::from(width),
-        _ => draws.within(USER_START, USER_END - u64::from(width)),
+        1 => last,
+        _ => draws.within(USER_START, last),
     };
     Op::Number {
         width,
@@ -161,6 +162,7 @@ pub fn spoil_fit(draws: &mut Draws, script: &mut Vec<Line>, shape: &Shape) {
     let at = draws.below(script.len() as u64) as usize;
     let line = &mut script[at];
     let page = draws.below(u64::from(shape.pages)) as u32;
+    let end = shape.user_end() as u32;
     match draws.below(5) {
         0 => line.user = draws.one_of(&[0, 17, u32::MAX]),
         1 => line.ops.push(Op::Clear {
@@ -171,13 +173,13 @@ pub fn spoil_fit(draws: &mut Draws, script: &mut Vec<Line>, shape: &Shape) {
             Op::Number {
                 width: 4,
                 page,
-                offset: draws.one_of(&[0, 37, 4_085, 4_088, 65_535]),
+                offset: draws.one_of(&[0, 37, end - 3, end, 65_535]),
                 value: 1,
             },
         ),
         3 => line.ops.push(Op::Bytes {
             page,
-            offset: 4_000,
+            offset: end - 88,
             bytes: vec![1; 89],
         }),
         _ => line.ops.extend((0..3).map(|_| Op::Bytes {

@@ -1,6 +1,6 @@
 //! A store made one of an older format, which reads as it did: its log, and its pages where the older format has them.
 
-use crate::crc::{PAGE, SECTOR, field, is_copy, is_place, put_field, seal_sector};
+use crate::crc::{SECTOR, field, is_copy, is_place, put_field, seal_sector};
 use crate::draws::Draws;
 use crate::events::{DATA, LOG};
 use crate::layout::{
@@ -141,19 +141,20 @@ fn with_slots_of(draws: &mut Draws, data: &[u8], new: &Shape, old: &Shape) -> Ve
     if new.slots == old.slots {
         return data.to_vec();
     }
+    let length = new.page_length();
     let mut whole = data.to_vec();
     whole.resize(whole.len().max(new.data_length()), 0);
-    let (slots, places) = whole.split_at(PAGE * new.slots as usize);
+    let (slots, places) = whole.split_at(length * new.slots as usize);
     let mut made = match draws.below(4) {
         0 => vec![0; whole.len()],
         1 => vec![draws.number() as u8; whole.len()],
         _ => whole.clone(),
     };
-    let (old_slots, old_places) = made.split_at_mut(PAGE * old.slots as usize);
+    let (old_slots, old_places) = made.split_at_mut(length * old.slots as usize);
     old_slots.copy_from_slice(&slots[..old_slots.len()]);
     let pages = old_places
-        .chunks_exact_mut(PAGE)
-        .zip(places.chunks_exact(PAGE));
+        .chunks_exact_mut(length)
+        .zip(places.chunks_exact(length));
     for (number, (made, place)) in (0..old.pages).zip(pages) {
         made.copy_from_slice(kept(place, slots, number, old));
     }
@@ -168,7 +169,7 @@ fn kept<'a>(place: &'a [u8], slots: &'a [u8], number: u32, old: &Shape) -> &'a [
     if is_place(place, number, old.space) {
         return place;
     }
-    let copies = slots.chunks_exact(PAGE).enumerate();
+    let copies = slots.chunks_exact(place.len()).enumerate();
     let passing = copies.filter(|(_, copy)| is_copy(copy, number, old.space));
     // the lowest slot of two of one lsn
     let counting = passing.rev().max_by_key(|(_, copy)| field(copy, 16, 8));

@@ -1,8 +1,7 @@
 //! The pages of a store as groups leave them.
 
-use crate::script::{Op, USER_END, USER_START};
-
-pub const USER_BYTES: usize = (USER_END - USER_START) as usize;
+use crate::script::{Op, USER_START};
+use crate::shape::Shape;
 
 #[derive(Clone, PartialEq)]
 pub struct Page {
@@ -14,9 +13,9 @@ pub struct Page {
 pub struct Pages(pub Vec<Page>);
 
 impl Pages {
-    pub fn blank(count: u32) -> Pages {
-        let user = vec![0; USER_BYTES];
-        Pages(vec![Page { lsn: 0, user }; count as usize])
+    pub fn blank(shape: &Shape) -> Pages {
+        let user = vec![0; shape.user_length() as usize];
+        Pages(vec![Page { lsn: 0, user }; shape.pages as usize])
     }
 
     /// Applies a group that ends at this lsn.

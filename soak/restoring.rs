@@ -1,11 +1,11 @@
 //! What `restore` has to answer of an archive: the pages for an lsn, or the first refusal that holds.
 
-use crate::crc::{PAGE, SECTOR, field, fits_sector, is_place};
+use crate::crc::{SECTOR, field, fits_sector, is_place};
 use crate::decoding::{Record, Stop, group};
 use crate::lsn::{BLOCK, BLOCK_DATA, BLOCK_HEADER, FIRST, behind, block_of, sn_of};
 use crate::pages::{Page, Pages};
-use crate::script::{MOST_BYTES, Op, USER_END, USER_START};
-use crate::shape::{Shape, has_page_size, shape_of};
+use crate::script::{MOST_BYTES, Op, USER_START};
+use crate::shape::{Shape, shape_of};
 use std::borrow::Cow;
 use std::fmt;
 
@@ -97,7 +97,6 @@ fn head_of(bytes: &[u8]) -> Option<(u64, Shape)> {
     let shape = shape_of(bytes);
     let passes = fits_sector(bytes)
         && field(bytes, 0, 4) == 1
-        && has_page_size(bytes)
         && LOG_BLOCKS.contains(&shape.log_blocks)
         && shape.has_format()
         && start % BLOCK == BLOCK_HEADER
@@ -130,7 +129,7 @@ impl Extent {
 
     /// Where the log blocks begin.
     fn first_block(&self) -> u64 {
-        (HEADER + self.shape.pages as usize * PAGE) as u64
+        (HEADER + self.shape.pages as usize * self.shape.page_length()) as u64
     }
 
     pub fn length(&self) -> u64 {
@@ -138,14 +137,15 @@ impl Extent {
     }
 
     fn page(&self, file: &[u8], number: u32) -> Result<Page, Refusal> {
-        let at = HEADER + number as usize * PAGE;
-        let page = part(file, at as u64, PAGE);
+        let length = self.shape.page_length();
+        let at = HEADER + number as usize * length;
+        let page = part(file, at as u64, length);
         if !is_place(&page, number, self.shape.space) {
             return Err(Refusal::Page(number.into()));
         }
         Ok(Page {
             lsn: field(&page, 16, 8),
-            user: page[USER_START as usize..USER_END as usize].to_vec(),
+            user: page[USER_START as usize..self.shape.user_end() as usize].to_vec(),
         })
     }
 
@@ -204,6 +204,11 @@ impl Extent {
 
     fn fits(&self, record: &Record) -> bool {
         let Record { space, op } = record;
+        // whether so many bytes from an offset on are user bytes
+        let is_within = |offset: u32, count: u64| {
+            let offset = u64::from(offset);
+            USER_START <= offset && offset + count <= self.shape.user_end()
+        };
         let is_within = match op {
             Op::Number {
                 width,
@@ -218,12 +223,6 @@ impl Extent {
         };
         *space == self.shape.space && op.page() < self.shape.pages && is_within
     }
-}
-
-/// Whether so many bytes from an offset on are user bytes.
-fn is_within(offset: u32, count: u64) -> bool {
-    let offset = u64::from(offset);
-    USER_START <= offset && offset + count <= USER_END
 }
 
 impl Reading {

@@ -121,7 +121,6 @@ pub fn group_length(line: &Line, space: u32) -> u64 {
 }
 
 pub const USER_START: u64 = 38;
-pub const USER_END: u64 = 4_088;
 pub const MOST_USERS: u32 = 16;
 pub const MOST_BYTES: u64 = 8_192;
 const MARGIN: u64 = 278_528;
@@ -158,6 +157,6 @@ fn op_misfit(op: &Op, shape: &Shape) -> Option<String> {
         Op::Bytes { offset, bytes, .. } => (u64::from(*offset), bytes.len() as u64),
         Op::Clear { .. } => return None,
     };
-    let is_within = USER_START <= offset && offset + count <= USER_END;
+    let is_within = USER_START <= offset && offset + count <= shape.user_end();
     (!is_within).then(|| format!("offset {offset}"))
 }

@@ -106,18 +106,19 @@ fn string(page: u32, offset: u32, length: usize) -> Op {
 /// What doesn't fit the store, is no group, or is too long for one.
 fn draw_misfit(draws: &mut Draws, shape: &Shape) -> Vec<u8> {
     let page = draws.below(u64::from(shape.pages)) as u32;
-    let offset = draws.one_of(&[0, 37, 4_088, 4_095, 65_535]);
+    let end = shape.user_end() as u32;
+    let offset = draws.one_of(&[0, 37, end, end + 7, 65_535]);
     let ops = match draws.below(15) {
         0 => vec![number(1, shape.pages, 100, 7)],
         1 => vec![number(4, u32::MAX - draws.below(2_000) as u32, 100, 7)],
         2 => vec![Op::Clear { page: shape.pages }],
         3 => vec![number(draws.one_of(&[1, 2, 4, 8]), page, offset, 7)],
-        4 => vec![number(8, page, 4_081, 7)],
+        4 => vec![number(8, page, end - 7, 7)],
         5 => vec![number(1, page, 100, 256), number(1, page, 100, 2)],
         6 => vec![number(2, page, 100, draws.one_of(&[65_536, 0xFFFF_FFFF]))],
-        7 => vec![string(page, 38, draws.one_of(&[0, 4_050, 4_051]))],
+        7 => vec![string(page, end - 4_050, draws.one_of(&[0, 4_050, 4_051]))],
         8 => vec![
-            string(page, 4_087, draws.one_of(&[1, 2])),
+            string(page, end - 1, draws.one_of(&[1, 2])),
             string(page, 37, 1),
         ],
         9 => {

@@ -12,6 +12,8 @@ pub struct Tally {
     /// Runs on stores of format 1 or 2, and of more pages than such have.
     pub early: u64,
     pub large: u64,
+    /// Runs on stores of pages of 16,384 bytes.
+    pub large_pages: u64,
     /// Runs with followers.
     pub followed: u64,
     /// Runs that wrote to an archive, those of them in threads, of users that write for themselves, that were cut or killed,
@@ -53,6 +55,7 @@ impl Tally {
         self.threads += other.threads;
         self.early += other.early;
         self.large += other.large;
+        self.large_pages += other.large_pages;
         self.followed += other.followed;
         self.archived += other.archived;
         self.archived_threads += other.archived_threads;

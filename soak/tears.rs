@@ -1,9 +1,10 @@
 //! What a power cut leaves of a device: each sector that was written since the last good sync may hold any bytes, but for
 //! such as pass a checksum by chance. Of an archive that is said of its marks alone.
 
-use crate::crc::{PAGE, SECTOR, fits_page, fits_sector, seal_sector};
+use crate::crc::{SECTOR, fits_page, fits_sector, seal_sector};
 use crate::draws::Draws;
 use crate::events::{ARCHIVE, DATA, Event, Write, synced, writes_of};
+use crate::shape::{LARGE_PAGE_SIZE, PAGE_SIZE};
 use std::collections::{BTreeMap, BTreeSet};
 
 /// The sectors of an archive's marks.
@@ -128,7 +129,10 @@ impl<'a> Cut<'a> {
             content[number * SECTOR..(number + 1) * SECTOR].copy_from_slice(&bytes);
         }
         if self.device == DATA {
-            torn += self.break_pages(draws, &mut content);
+            // formatting may change the size of a store's pages
+            for size in [PAGE_SIZE, LARGE_PAGE_SIZE] {
+                torn += self.break_pages(draws, &mut content, size as usize);
+            }
         }
         (content, torn)
     }
@@ -217,23 +221,24 @@ impl<'a> Cut<'a> {
         }
     }
 
-    /// Breaks each page that would pass for one that was never written: a page is whole as the first writes left it.
-    fn break_pages(&self, draws: &mut Draws, content: &mut [u8]) -> u64 {
+    /// Breaks each page of this size that would pass for one that was never written: a page is whole as the first writes left
+    /// it.
+    fn break_pages(&self, draws: &mut Draws, content: &mut [u8], size: usize) -> u64 {
         let written = self.written(0);
         let pages: BTreeSet<usize> = written
             .keys()
-            .map(|number| number * SECTOR / PAGE)
+            .map(|number| number * SECTOR / size)
             .collect();
         let mut broken = 0;
         for page in pages {
-            let range = page * PAGE..((page + 1) * PAGE).min(content.len());
-            if range.len() < PAGE || !fits_page(&content[range.clone()]) {
+            let range = page * size..((page + 1) * size).min(content.len());
+            if range.len() < size || !fits_page(&content[range.clone()]) {
                 continue;
             }
-            if self.is_whole_page(page, &content[range]) {
+            if self.is_whole_page(range.start, &content[range.clone()]) {
                 continue;
             }
-            let sectors = PAGE / SECTOR;
+            let sectors = size / SECTOR;
             let within = page * sectors..(page + 1) * sectors;
             let covered: Vec<usize> = written.range(within).map(|(number, _)| *number).collect();
             let number = draws.one_of(&covered);
@@ -245,8 +250,8 @@ impl<'a> Cut<'a> {
         broken
     }
 
-    fn is_whole_page(&self, page: usize, bytes: &[u8]) -> bool {
-        let range = page * PAGE..(page + 1) * PAGE;
+    fn is_whole_page(&self, at: usize, bytes: &[u8]) -> bool {
+        let range = at..at + bytes.len();
         let mut whole = self.base[range.clone()].to_vec();
         if whole == bytes {
             return true;

@@ -160,7 +160,7 @@ fn main() {
     let failures = soak.failures.load(Ordering::Relaxed);
     let tally = soak.tally.lock().unwrap();
     println!(
-        "{} runs on {} stores, {} calls, {} groups, {} of them dropped; {} in threads; {} on stores of format 1 or 2, {} of more than 64 pages; {} with followers; {} archived, {} of them in threads, {} of users that write for themselves, {} cut or killed and {} not begun to the end, {} restored lsns; {} cuts after a run, {} within one, {} of them with writes of an earlier call pending; {} calls without a cut, {} killed; {} stops that hit; cuts and stops: {} in formatting, {} in opening, {} of them in a migration; {} migrations; {} torn sectors; {} wraps of the ring; {failures} failures; {} seconds",
+        "{} runs on {} stores, {} calls, {} groups, {} of them dropped; {} in threads; {} on stores of format 1 or 2, {} of more than 64 pages, {} of large pages; {} with followers; {} archived, {} of them in threads, {} of users that write for themselves, {} cut or killed and {} not begun to the end, {} restored lsns; {} cuts after a run, {} within one, {} of them with writes of an earlier call pending; {} calls without a cut, {} killed; {} stops that hit; cuts and stops: {} in formatting, {} in opening, {} of them in a migration; {} migrations; {} torn sectors; {} wraps of the ring; {failures} failures; {} seconds",
         tally.runs,
         tally.stores,
         tally.calls,
@@ -169,6 +169,7 @@ fn main() {
         tally.threads,
         tally.early,
         tally.large,
+        tally.large_pages,
         tally.followed,
         tally.archived,
         tally.archived_threads,
