@@ -4,7 +4,7 @@ use Rattle.std.proofs.lemmas.Bool.{and_parts, eq-eqb, eqb-true}
 use Rattle.std.proofs.lemmas.Bool.Decides.{nat_tests}
 use Rattle.model_base.specs.declared.limits.TheConstants.{EARLY_SLOTS, LARGE_PAGE_SIZE, MAX_EARLY_PAGES, MAX_LOG_BLOCKS, MAX_PAGES, MIN_LOG_BLOCKS, PAGE_SIZE, SLOTS}
 use Rattle.model_base.specs.declared.shape.Shape.{Shape}
-use Rattle.model_base.specs.Limits.{default_shape, has_early_sizes, has_sizes, is_page_size, is_within_limits, IsEarly, IsWholeSectors, IsWithinLimits, space_limit}
+use Rattle.model_base.specs.Limits.{default_shape, has_early_sizes, has_sizes, is_page_size, is_within_limits, IsEarly, IsWholeSectors, IsWithinLimits, run_shape, space_limit}
 unfoldable use Rattle.model_base.specs.Limits.{IsPageSize}
 
 -- where either test passes, the one that does
@@ -135,3 +135,15 @@ default_page_size = inl refl
 -- so is a shape that is the default one
 pub default_limits : (shape : Shape) → shape ≡ default_shape → IsWithinLimits shape
 default_limits shape is = subst IsWithinLimits (sym is) default_within
+
+-- the sizes of a run on a store are within the limits where the store's are
+pub run_within : (shape : Shape) → IsWithinLimits shape → IsWithinLimits (run_shape shape)
+run_within shape is = record {
+  page_size = is.page_size;
+  some_pages = is.some_pages;
+  few_pages = is.few_pages;
+  space = is.space;
+  many_blocks = is.many_blocks;
+  few_blocks = is.few_blocks;
+  slots = inl refl;
+}

@@ -42,6 +42,10 @@ abbrev pub has_early_sizes : Shape → Bool
 has_early_sizes shape =
     shape.page_size == PAGE_SIZE && nat_le shape.pages MAX_EARLY_PAGES && shape.slots == EARLY_SLOTS
 
+-- the sizes with which a run is made on a store of this shape: it has the slots of the latest format
+abbrev pub run_shape : Shape → Shape
+run_shape shape = record { page_size = shape.page_size; pages = shape.pages; space = shape.space; log_blocks = shape.log_blocks; slots = SLOTS }
+
 -- each size is one that a store may have; any space id is
 abbrev pub is_within_limits : Shape → Bool
 is_within_limits shape =

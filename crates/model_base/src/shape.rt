@@ -17,7 +17,7 @@ pub struct Shape {
 
 impl Shape {
     ghost use Rattle.std.specs.Prelude.{◌≡◌, ◌≤◌};
-    ghost use Rattle.model_base.specs.Limits.{default_shape, frame_length, IsWithinLimits, user_length};
+    ghost use Rattle.model_base.specs.Limits.{default_shape, frame_length, IsWithinLimits, run_shape, user_length};
 
     /// User bytes of a page.
     pub fn user_bytes(&self) -> u32
@@ -25,6 +25,18 @@ impl Shape {
         ensures { result ≡ user_length self.now }
     {
         self.page_size - (crate::USER_START + crate::PAGE_TRAILER)
+    }
+
+    /// The sizes with which a run is made on a store of this shape, once it has the slots of the latest format.
+    #[tactic(auto, using(crate::proofs::ShapeLimits::run_within))]
+    pub fn run_shape(&self) -> Shape
+        ensures shape { result ≡ run_shape self.now }
+        ensures limits { IsWithinLimits self.now → IsWithinLimits (run_shape self.now) }
+    {
+        Shape {
+            slots: crate::SLOTS,
+            ..*self
+        }
     }
 
     /// The shape of a store that is formatted without an option.

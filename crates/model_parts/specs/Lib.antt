@@ -7,6 +7,7 @@ pub mod Changes
 pub mod Cleared
 pub mod Formatted
 pub mod FormattedDevices
+pub mod Enlarging
 pub mod Found
 pub mod Held
 pub mod LogFresh
@@ -29,6 +30,7 @@ pub use Rattle.model_parts.specs.Changes.{IsErased, IsErasing, IsPut, IsPutting,
 pub use Rattle.model_parts.specs.Cleared.{IsCleared, IsClearing, IsInKeptRange, IsOfTail, IsOutside, IsPastKept, IsStaleTail}
 pub use Rattle.model_parts.specs.Formatted.{IsStillBefore, KeepsNoStore, formatted_store}
 pub use Rattle.model_parts.specs.FormattedDevices.{IsFormatted, IsFormattedData, IsFormattedLog, zero_block}
+pub use Rattle.model_parts.specs.Enlarging.{IsEnlarged, IsHeaded, IsHeading, KeepsStretches, run_head}
 pub use Rattle.model_parts.specs.Found.{IsUnopened, KeepsHead}
 pub use Rattle.model_parts.specs.AtRest.{IsAtRest}
 pub use Rattle.model_parts.specs.Held.{AreInOrder, IsHeadPlace, IsLive, IsWritten, LogHolds, LogHoldsWith, MayStand, other_place}
@@ -39,7 +41,7 @@ pub use Rattle.model_parts.specs.Mended.{AreHeld, AreRepaired}
 pub use Rattle.model_parts.specs.Migrating.{IsLogSector, IsMigrated, IsMigrating, IsNearlyMigrated}
 pub use Rattle.model_parts.specs.Opened.{IsOpenable, KeepsOpened, found_layout, numbers_taken, start_block, start_of}
 pub use Rattle.model_parts.specs.Reads.{CrashReads, FitsStore, ScansTo}
-pub use Rattle.model_parts.specs.Ready.{IsReady}
+pub use Rattle.model_parts.specs.Ready.{IsReady, IsReadyBy}
 pub use Rattle.model_parts.specs.Repair.{FailsPutBack, IsCopyPut, IsPutBack, IsRepairable, IsRepaired, KeepsAll, KeepsSame, SameSlots, repair_write}
 pub use Rattle.model_parts.specs.Rewritten.{IsRewriting, IsRewritten}
 pub use Rattle.model_parts.specs.Steps.{ArePutOrNot, FailsBoth, FailsOne, after_both, written_all}

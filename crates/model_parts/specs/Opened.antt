@@ -1,5 +1,6 @@
 -- What opening a store needs, and what it leaves to be read wherever it ends.
 use Rattle.std.specs.Prelude.{ℕ, ◌≡◌, ◌≤◌, ◌<◌, ◌+◌, ◌-◌, ◌⊎◌, List, []}
+use Rattle.model_base.specs.{run_shape}
 use Rattle.model_device.specs.Disk.{Disk}
 use Rattle.model_log.specs.{layout_of, start_after}
 use Rattle.model_log.specs.declared.head.Format.{Format}
@@ -49,13 +50,13 @@ pub record IsNextLog (opened reading : Reading) : Type 0 where
   pub wholes : reading.wholes ≡ []
   pub end : reading.end ≡ start_of opened
 
--- The bytes of the two devices are read with the opened pages, and no copy in a slot is ahead of its page, so that they
--- may be opened again.
+-- The bytes of the two devices are read with the opened pages, by the shape that was found or that of a run, and no copy in
+-- a slot is ahead of its page, so that they may be opened again.
 pub record ReadsOpened (opened : Reading) (log_bytes data_bytes : List ℕ) : Type 0 where
   pub reading : Reading
   pub is_read : IsReading log_bytes data_bytes reading
   pub old_copies : HasOldCopies data_bytes reading
-  pub shape : reading.shape ≡ opened.shape
+  pub shape : run_shape reading.shape ≡ run_shape opened.shape
   pub pages : reading.pages ≡ opened.pages
   pub log : IsSameLog opened reading ⊎ IsNextLog opened reading
 

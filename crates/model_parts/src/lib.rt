@@ -13,8 +13,9 @@ pub use data_laws::{crash_keeps, opened_is_stored, orderly_is_opened, zeros_are_
 pub use log_laws::{crash_reads, longer_run};
 pub use marks::{LogMarks, TailMarks};
 pub use opening_laws::{
-    clearing_keeps, clearing_reads, formatted_is_openable, kept_head_is_read, kept_head_keeps,
-    marked_is_fresh, marking_keeps, marking_reads, migrated_is_fresh, migrating_keeps,
-    migrating_reads, openable_reads, opened_again, opened_is_ready, repairing_rewrites,
-    stored_is_rewritten, writing_rewrites,
+    clearing_keeps, clearing_reads, enlarged_is_stored, enlarging_keeps, formatted_is_openable,
+    headed_is_fresh, heading_keeps, kept_head_is_read, kept_head_keeps, marked_is_fresh,
+    marking_keeps, marking_reads, migrated_is_fresh, migrating_keeps, migrating_reads,
+    openable_reads, opened_again, ready_is_read, repairing_rewrites, stored_is_rewritten,
+    writing_rewrites,
 };

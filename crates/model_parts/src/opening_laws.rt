@@ -1,11 +1,12 @@
 // What holds of every store while it is opened.
-ghost use Rattle.std.specs.Prelude.{◌≡◌, ◌≢◌, ◌+◌, ℕ, List, [], length, false, Option};
-ghost use Rattle.model_base.specs.{IsWithinLimits};
+ghost use Rattle.std.specs.Prelude.{◌≡◌, ◌≢◌, ◌≤◌, ◌+◌, ◌⊎◌, ℕ, List, [], length, false, Option};
+ghost use Rattle.model_base.specs.{IsWithinLimits, run_shape};
 ghost use Rattle.model_base.specs.declared.shape.Shape.{Shape};
-ghost use Rattle.model_device.specs.{Crashes, sector, settled};
+ghost use Rattle.model_device.specs.{Crashes, IsImage, sector, settled};
 ghost use Rattle.model_device.specs.Disk.{Disk};
 ghost use Rattle.model_log.specs.{checkpoint_text, place_of};
 ghost use Rattle.model_log.specs.declared.head.Format.TheVariants.{One};
+ghost use Rattle.model_page.specs.{data_device_length};
 ghost use Rattle.model_page.specs.declared.content.Content.{Content};
 ghost use Rattle.model_parts.specs.Again.{HasRoom, OpensAgain};
 ghost use Rattle.model_parts.specs.Batch.{Fresh};
@@ -17,7 +18,8 @@ ghost use Rattle.model_parts.specs.FormattedDevices.{IsFormatted};
 ghost use Rattle.model_parts.specs.LogFresh.{IsFresh};
 ghost use Rattle.model_parts.specs.Migrating.{IsMigrated, IsMigrating};
 ghost use Rattle.model_parts.specs.Opened.{IsOpenable, ReadsOpened, KeepsOpened, found_layout, numbers_taken, start_of, start_block};
-ghost use Rattle.model_parts.specs.Ready.{IsReady};
+ghost use Rattle.model_parts.specs.Enlarging.{IsEnlarged, IsHeaded, IsHeading, KeepsStretches};
+ghost use Rattle.model_parts.specs.Ready.{IsReadyBy};
 ghost use Rattle.model_parts.specs.Repair.{KeepsAll};
 ghost use Rattle.model_parts.specs.Rewritten.{IsRewriting, IsRewritten};
 ghost use Rattle.model_parts.specs.Stored.{IsUpTo, Keeps, Stored};
@@ -158,15 +160,45 @@ pub fn migrating_keeps()
         → KeepsOpened opened log_disk data_disk }
 {}
 
-/// Once a run can start on the log device, and each place holds its page, the store is ready, and it is read with the
-/// opened pages.
-pub fn opened_is_ready()
-    ensures ready { (opened : Reading) (log_disk data_disk : Disk)
-        → IsFresh opened.shape (start_of opened) (opened.number + numbers_taken opened.format) log_disk
+/// While a store of an earlier format, which is ready by its own sizes, gets the slots and places of a run on its data device, it
+/// is read with the opened pages.
+pub fn enlarging_keeps()
+    ensures { (opened : Reading) (log_bytes data_bytes : List ℕ) (log_disk old data_disk : Disk)
+        → IsOrderly log_bytes data_bytes opened → IsReadyBy opened.shape opened log_disk old
+        → ((image : List ℕ) → IsImage data_disk image → KeepsStretches opened.shape old.base image)
+        → KeepsOpened opened log_disk data_disk }
+{}
+
+/// Once it has them, it holds its pages by its own sizes and by those of a run.
+pub fn enlarged_is_stored()
+    ensures { (shape by : Shape) (pages : ℕ → Content) (old new : Disk) → IsWithinLimits shape → (by ≡ shape) ⊎ (by ≡ run_shape shape)
+        → Stored shape (IsUpTo pages) pages [] false old → new ≡ settled new.base
+        → data_device_length (run_shape shape) ≤ length new.base → IsEnlarged shape pages old.base new.base
+        → Stored by (IsUpTo pages) pages [] false new }
+{}
+
+/// And then it is read with the opened pages while the headers of a run are put.
+pub fn heading_keeps()
+    ensures { (opened : Reading) (log_bytes data_bytes old_log : List ℕ) (log_disk data_disk : Disk)
+        → IsOrderly log_bytes data_bytes opened
+        → IsFresh opened.shape (start_of opened) (opened.number + numbers_taken opened.format) (settled old_log)
+        → ((image : List ℕ) → IsFairLog log_disk image → IsHeading opened.shape old_log image)
         → Stored opened.shape (IsUpTo (read_as opened)) (read_as opened) [] false data_disk
-        → IsReady opened log_disk data_disk }
-    ensures reads { (opened : Reading) (log_bytes data_bytes : List ℕ) (log_disk data_disk : Disk)
-        → IsOrderly log_bytes data_bytes opened → IsReady opened log_disk data_disk → KeepsOpened opened log_disk data_disk }
+        → Stored (run_shape opened.shape) (IsUpTo (read_as opened)) (read_as opened) [] false data_disk
+        → KeepsOpened opened log_disk data_disk }
+{}
+
+/// Once they stand, a run can start on the log device.
+pub fn headed_is_fresh()
+    ensures { (shape : Shape) (start number : ℕ) (old new : List ℕ) → IsWithinLimits shape
+        → IsFresh shape start number (settled old) → IsHeaded shape old new → IsFresh (run_shape shape) start number (settled new) }
+{}
+
+/// A store that is ready, by its own sizes or by those of a run, is read with the opened pages.
+pub fn ready_is_read()
+    ensures { (opened : Reading) (log_bytes data_bytes : List ℕ) (shape : Shape) (log_disk data_disk : Disk)
+        → IsOrderly log_bytes data_bytes opened → (shape ≡ opened.shape) ⊎ (shape ≡ run_shape opened.shape)
+        → IsReadyBy shape opened log_disk data_disk → KeepsOpened opened log_disk data_disk }
 {}
 
 /// A store that may be opened is read so before the first step of opening.

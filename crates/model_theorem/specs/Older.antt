@@ -2,13 +2,12 @@
 use Rattle.std.specs.Prelude.{ℕ, ◌<◌}
 use Rattle.model_base.specs.declared.shape.Shape.{Shape}
 use Rattle.model_device.specs.Disk.{Disk}
-use Rattle.model_log.specs.declared.head.Format.{Format}
-use Rattle.model_theorem.specs.Opening.{HasCheckpoint}
+use Rattle.model_theorem.specs.Opening.{HasFound}
 
 -- at its last good sync the log device held a newest checkpoint, of a lower number than this
 pub record HeldOlder (shape : Shape) (number : ℕ) (disk : Disk) : Type 0 where
-  pub format : Format
+  pub was : Shape
   pub found : ℕ
   pub ckpt : ℕ
-  pub newest : HasCheckpoint format shape found ckpt disk.base
+  pub newest : HasFound shape was found ckpt disk
   pub older : found < number

@@ -1,8 +1,8 @@
 -- Whether opening came to its end, as the log device tells it. Opening ends by making a checkpoint durable, whose number is
--- above that of the store that was found; a store of format 1 then gets the header of format 2, which comes last. A run
--- begins only after that.
+-- above that of the store that was found; a store of an earlier format then gets the header of format 3, which comes last. A
+-- run begins only after that.
 use Rattle.std.specs.Prelude.{ℕ, ◌≡◌, ◌≤◌, ◌+◌, List, Option, Some, None}
-use Rattle.model_base.specs.{default_shape}
+use Rattle.model_base.specs.{default_shape, run_shape}
 use Rattle.model_base.specs.declared.shape.Shape.{Shape}
 use Rattle.model_device.specs.{HasOneImage}
 use Rattle.model_device.specs.Disk.{Disk}
@@ -32,23 +32,30 @@ pub record HasCheckpointFrom (shape : Shape) (lowest : ℕ) (log : List ℕ) : T
   pub newest : HasCheckpoint (run_format shape) shape number ckpt log
   pub from : lowest ≤ number
 
--- Opening came to its end: every fair image of the log device is of the format of runs, and has a newer checkpoint than
--- stood there, at its last good sync, when its fuse was armed.
-pub record IsOpeningDone (shape : Shape) (armed_from disk : Disk) : Type 0 where
+-- What opening found: at its last good sync the log device held this checkpoint as the newest, of a store that had these sizes,
+-- and is run by the others.
+pub record HasFound (shape was : Shape) (number ckpt : ℕ) (disk : Disk) : Type 0 where
+  pub runs_by : run_shape was ≡ shape
   pub format : Format
+  pub newest : HasCheckpoint format was number ckpt disk.base
+
+-- Opening came to its end: every fair image of the log device is of the format of runs, and has a newer checkpoint than
+-- was found.
+pub record IsOpeningDone (shape : Shape) (armed_from disk : Disk) : Type 0 where
+  pub was : Shape
   pub number : ℕ
   pub ckpt : ℕ
-  pub found : HasCheckpoint format shape number ckpt armed_from.base
+  pub found : HasFound shape was number ckpt armed_from
   pub moved : (image : List ℕ) → IsFairLog disk image → HasCheckpointFrom shape (number + 1) image
 
--- Opening was stopped: at the log device's last good sync the header was still of the format that stood there when its fuse
--- was armed, and in formats 2 and 3 the newest checkpoint was still the same.
+-- Opening was stopped: at the log device's last good sync the header was still of an earlier format, or the newest checkpoint
+-- was still the one that was found.
 pub record IsOpeningStopped (shape : Shape) (armed_from disk : Disk) : Type 0 where
-  pub format : Format
+  pub was : Shape
   pub number : ℕ
   pub ckpt : ℕ
-  pub found : HasCheckpoint format shape number ckpt armed_from.base
-  pub unmoved : IsUnopened format shape number ckpt disk.base
+  pub found : HasFound shape was number ckpt armed_from
+  pub unmoved : IsUnopened was number ckpt disk.base
 
 -- OPENING CAME TO ITS END just where a run took place. What stood there at the last good sync is a fair image, so no device
 -- is left by both.

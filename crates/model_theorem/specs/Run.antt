@@ -1,5 +1,6 @@
 -- The two halves of what is promised: what a run is, and what a reading of its devices is of it.
 use Rattle.std.specs.Prelude.{ℕ, ◌≡◌, ◌≢◌, ◌≤◌, ◌<◌, List, [], take, slice_get, Option, Some, None, IfSome}
+use Rattle.model_base.specs.{run_shape}
 use Rattle.model_log.specs.{IsBoundary, start_after}
 use Rattle.model_store.specs.{folded, HasOldCopies, IsReading}
 use Rattle.model_store.specs.Reading.{Reading}
@@ -28,9 +29,9 @@ pub record AreMarksReached (reading : Reading) (run : Ran) : Type 0 where
   pub checkpoint : run.marks.ckpt ≤ reading.ckpt
 
 -- THE READING: the opened pages with the first n groups of the run applied whole, n being the number of those that end
--- at or below the end that was read.
+-- at or below the end that was read. Where opening was stopped, its shape may still be that of an earlier format.
 pub record IsPrefixRead (script : List ScriptLine) (opened : Opened) (run : Option Ran) (reading : Reading) : Type 0 where
-  pub shape : reading.shape ≡ opened.shape
+  pub shape : run_shape reading.shape ≡ opened.shape
   -- the pages are the fold of the first n groups, page lsns included
   pub first_groups_whole : reading.pages
       ≡ folded opened.pages (take (first_count run reading.end) (wholes_of script opened.shape.space (entries_of run)))

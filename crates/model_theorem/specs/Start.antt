@@ -1,6 +1,7 @@
 -- The start of a run on a store that opening made ready.
 use Rattle.std.specs.Prelude.{ℕ, ◌+◌, List, []}
 use Rattle.std.specs.List.{AllByRecursion}
+use Rattle.model_base.specs.{run_shape}
 use Rattle.model_device.specs.Disk.{Disk}
 use Rattle.model_store.specs.{IsOrderly}
 use Rattle.model_store.specs.Reading.{Reading}
@@ -12,7 +13,7 @@ use Rattle.model_theorem.specs.Closed.{Closed}
 
 -- a store that was read as this, as it is opened
 abbrev pub opened_as : Reading → Opened
-opened_as reading = record { shape = reading.shape; pages = reading.pages; end = reading.end }
+opened_as reading = record { shape = run_shape reading.shape; pages = reading.pages; end = reading.end }
 
 -- The store was in order and read as this before it was opened; now its devices are ready for a run; and each line of the
 -- script fits it.
@@ -21,7 +22,7 @@ pub record IsStart (reading : Reading) (script : List ScriptLine) (log_disk data
   pub data_bytes : List ℕ
   pub orderly : IsOrderly log_bytes data_bytes reading
   pub ready : IsReady reading log_disk data_disk
-  pub fits : AllByRecursion (LineFits reading.shape) script
+  pub fits : AllByRecursion (LineFits (run_shape reading.shape)) script
 
 -- what a run comes to that plays no line on it
 abbrev pub unplayed : Reading → List ScriptLine → List (ℕ × ℕ) → Disk → Disk → Closed

@@ -4,6 +4,7 @@ use Rattle.std.specs.List.{AllByRecursion}
 use lib.ListN.{get_elem?}
 use mathlib.Core.Option.{some}
 use Rattle.model_archive.specs.{begun_marks}
+use Rattle.model_base.specs.{run_shape}
 use Rattle.model_base.specs.declared.shape.Shape.{Shape}
 use Rattle.model_core.specs.{new_reader}
 use Rattle.model_core.specs.declared.limits.TheConstants.{READERS}
@@ -46,7 +47,7 @@ pub record IsNewArchive {L D A : Type 0} (seen : A → Seen) (opened : Opened L 
 
 -- The opened store was in order and read as this.
 pub record HasReading {L D : Type 0} (reading : Reading) (opened : Opened L D) : Type 0 where
-  pub shape : opened.shape ≡ reading.shape
+  pub shape : opened.shape ≡ run_shape reading.shape
   pub pages : opened.pages ≡ reading.pages
   pub start : opened.start ≡ start_of reading
   pub number : opened.log.marks.number ≡ reading.number + numbers_taken reading.format

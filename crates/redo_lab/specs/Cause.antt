@@ -19,7 +19,7 @@ use Rattle.model_script.specs.{generated_lines, script_of}
 use Rattle.model_script.specs.declared.misfit.Misfit.{Misfit}
 use Rattle.model_script.specs.declared.script.ScriptLine.{ScriptLine}
 use Rattle.model_script.specs.declared.words.TheConstants.{MAX_TURNS}
-use Rattle.model_store.specs.{IsUnused, IsReading, Opens}
+use Rattle.model_store.specs.{IsUnused, IsReading, Opens, RefusesToOpen}
 use Rattle.model_store.specs.declared.refusal.Refusal.{Refusal}
 use Rattle.model_store.specs.declared.refusal.Refusal.TheVariants.{SmallLog}
 use Rattle.model_theorem.specs.{misfit_on, Opened, Ran, IsRun}
@@ -85,13 +85,13 @@ LeavesFailed call (Format page_size pages space log_blocks) =
 LeavesFailed call command = runs_script command ≡ true → IsUnprepared call ⊎ AreOfRun call command
 
 -- The store that a run was to open is refused: the log device is too short for a header; or it is unused, and one is too short for
--- a new store; or it is in use, and what reads gave at entry is refused. Both devices are as they were.
+-- a new store; or it is in use, and what reads gave at entry isn't opened for a run. Both devices are as they were.
 abbrev pub IsRefusedAtEntry : LabCall → Refusal → Type 0
 IsRefusedAtEntry call refusal =
     (((call.log.entry.size < HEADER_BYTES) × (refusal ≡ SmallLog HEADER_BYTES))
     ⊎ ((HEADER_BYTES ≤ call.log.entry.size) × WhereToldAtEntry call (λ log store.
     (IsUnused log.reads × IsTooShort default_shape call.log.entry.size call.store.entry.size refusal)
-    ⊎ ((IsUnused log.reads → ⊥) × AreRefused refusal log store))))
+    ⊎ ((IsUnused log.reads → ⊥) × RefusesToOpen log.reads store.reads refusal))))
     × HaveSameContents call
 
 -- the store is refused, at entry or as a run or a crash left it
@@ -208,7 +208,7 @@ pub record CanPlay (call : LabCall) (drive : Drive) (script : List ScriptLine) :
   pub log_fresh : IsSettledAtEntry log call.log.entry.faults
   pub store_fresh : IsSettledAtEntry store call.store.entry.faults
   pub opens : Opens log.reads store.reads opened.shape opened.pages opened.end
-  pub long : IsUnused log.reads → AreLongEnough default_shape call.log.entry.size call.store.entry.size
+  pub long : AreLongEnough opened.shape call.log.entry.size call.store.entry.size
   pub fits : misfit_on drive.log_only (archive_size call.archive drive) opened script ≡ None
   pub archive_unfailed : drive.archive ≡ true → HasRisen call.archive.entry.faults call.archive.now.faults → ⊥
   pub fair : IsLeftFair call opened

@@ -3,7 +3,7 @@ use Rattle.std.specs.Prelude.{ℕ, ◌≡◌, ◌≤◌, List, Option, Result, O
 use Rattle.model_base.specs.{HasRisen}
 use Rattle.model_device.specs.{sector, settled}
 use Rattle.model_device.specs.Disk.{Disk}
-use Rattle.model_parts.specs.{found_layout, IsAtRest, IsReady, IsUnopened, KeepsOpened}
+use Rattle.model_parts.specs.{found_layout, IsAtRest, IsReadyBy, IsUnopened, KeepsOpened}
 use Rattle.model_store.specs.{AreFoundIn, IsOrderly}
 use Rattle.model_store.specs.Reading.{Reading}
 use Rattle.model_store.specs.declared.tail.Tail.{Tail}
@@ -24,7 +24,7 @@ WhereBothTell log data_told R = IfSome log (λ log_disk. IfSome data_told (λ da
 
 -- what stood on the log device at its last good sync tells that opening hasn't come to its end
 abbrev pub IsNotOpened : Reading → Disk → Type 0
-IsNotOpened opened disk = IsUnopened opened.format opened.shape opened.number opened.ckpt disk.base
+IsNotOpened opened disk = IsUnopened opened.shape opened.number opened.ckpt disk.base
 
 -- the device has its size, and its count of faults hasn't fallen
 pub record IsSameDevice (old new : Seen) : Type 0 where
@@ -53,13 +53,13 @@ pub record OpensFrom (opened : Reading) (tail : Option Tail) (log data_device : 
   pub log_from : IfSome log.tells (IsFrom log_bytes)
   pub data_from : IfSome data_device.tells (λ disk. disk ≡ settled data_bytes)
 
--- At each exit whatever a crash leaves is read with the opened pages, and after Ok a run can start; where both devices
--- told at first a store that is in order. Until then what stands on the log device tells that it isn't opened.
+-- At each exit whatever a crash leaves is read with the opened pages, and after Ok the store is ready by its own sizes; where both
+-- devices told at first a store that is in order. Until then what stands on the log device tells that it isn't opened.
 pub record DevicesStep (opened : Reading) (tail : Option Tail) (log_old data_old : Seen) (result : Result (Unit {0}) RecFault) (log_new data_new : Seen) : Type 0 where
   pub keeps : (log_bytes data_bytes : List ℕ) → OpensFrom opened tail log_old data_old log_bytes data_bytes
       → WhereBothTell log_new.tells data_new.tells (KeepsOpened opened)
   pub ok : (log_bytes data_bytes : List ℕ) → OpensFrom opened tail log_old data_old log_bytes data_bytes
-      → OnOk result (WhereBothTell log_new.tells data_new.tells (IsReady opened))
+      → OnOk result (WhereBothTell log_new.tells data_new.tells (IsReadyBy opened.shape opened))
   pub unmoved : (log_bytes data_bytes : List ℕ) → OpensFrom opened tail log_old data_old log_bytes data_bytes
       → OnErr result (IfSome log_new.tells (IsNotOpened opened))
   pub fault : IfErr result IsOpenFault

@@ -1,11 +1,11 @@
 -- Opening a store off two devices that are handed in: what is opened, and what is left of the devices.
 use Rattle.std.specs.Prelude.{ℕ, ◌≡◌, ◌≢◌, ◌≤◌, ◌<◌, ◌+◌, ◌%◌, ◌^◌, List, length, Option, None, Result, Ok, Err, IfOk, IfErr, IfSome}
-use Rattle.model_base.specs.{HasRisen}
+use Rattle.model_base.specs.{HasRisen, run_shape}
 use Rattle.model_base.specs.declared.limits.TheConstants.{LSN_LIMIT}
 use Rattle.model_base.specs.declared.shape.Shape.{Shape}
 use Rattle.model_parts.specs.{first_marks, first_tails, IsAtRest, IsReady, KeepsOpened, numbers_taken, start_of}
 use Rattle.model_device.specs.Disk.{Disk}
-use Rattle.model_store.specs.{IsReading, Refuses}
+use Rattle.model_store.specs.{IsReading, RefusesToOpen}
 use Rattle.model_store.specs.Reading.{Reading}
 use Rattle.model_store.specs.declared.refusal.Refusal.{Refusal}
 use Rattle.model_store.specs.declared.tail.Tail.{Tail}
@@ -18,7 +18,7 @@ use Rattle.redo_open.specs.Devices.{IsNotOpened, IsOpenFault, OpensFrom, WhereBo
 use Rattle.redo_open.specs.Formatting.{WritesInside}
 use Rattle.redo_store.specs.{IsRunnable}
 use Rattle.redo_store.specs.declared.opened.Opened.{Opened}
-use Rattle.redo_recover.specs.{data_error, HasCauseIn, HasLengthCause, log_error, OnContents}
+use Rattle.redo_recover.specs.{data_error, HasLengthCause, log_error, OnContents, refusal_of}
 use Rattle.redo_recover.specs.Devices.{IsUnchanged}
 use Rattle.redo_recover.specs.declared.recovered.Recovered.{Recovered}
 use Rattle.redo_recover.specs.declared.fault.RecFault.{RecFault}
@@ -37,10 +37,10 @@ abbrev pub data_device_left : {L D : Type 0} → OpenResult L D → D
 data_device_left (Ok store) = store.store.dev
 data_device_left (Err error) = error.2
 
--- The store is opened as it was read: with its shape and its pages, past its log's end, and under the number of the last
+-- The store is opened as it was read: with the shape of a run on it and its pages, past its log's end, and under the number of the last
 -- checkpoint of opening.
 pub record IsOpenedAs {L D : Type 0} (reading : Reading) (store : Opened L D) : Type 0 where
-  pub shape : store.shape ≡ reading.shape
+  pub shape : store.shape ≡ run_shape reading.shape
   pub start : store.start ≡ start_of reading
   pub pages : store.pages ≡ reading.pages
   pub number : store.log.marks.number ≡ (reading.number + numbers_taken reading.format) % 2 ^ 64
@@ -61,16 +61,21 @@ pub record IsOpenedReady {L D : Type 0} (log_seen : L → Seen) (data_seen : D �
 -- this is so where both devices tell, and what reads give is refused
 abbrev pub WhereRefused : Seen → Seen → Type 0 → Type 0
 WhereRefused log data_device P = (refusal : Refusal)
-    → OnContents log.tells data_device.tells (λ log_bytes data_bytes. Refuses log_bytes data_bytes refusal → P)
+    → OnContents log.tells data_device.tells (λ log_bytes data_bytes. RefusesToOpen log_bytes data_bytes refusal → P)
 
 -- this is so where both devices still tell
 abbrev pub WhereStillTold : Option Disk → Option Disk → Type 0 → Type 0
 WhereStillTold log data_told P = log ≢ None → data_told ≢ None → P
 
+-- a fault that names a cause has it: what the devices hold isn't opened for that cause, where both tell
+abbrev pub HasOpeningCauseIn : Option Disk → Option Disk → RecFault → Type 0
+HasOpeningCauseIn log data_told fault =
+    IfSome (refusal_of fault) (λ cause. OnContents log data_told (λ log_bytes data_bytes. RefusesToOpen log_bytes data_bytes cause))
+
 -- A fault has its cause: the store is refused for it, a device is too short, or that device has failed. A store that is refused
 -- is as it was, whatever is answered.
 pub record HasFaultCause (log data_device log_after data_after : Seen) (fault : RecFault) : Type 0 where
-  pub refused : WhereStillTold log_after.tells data_after.tells (HasCauseIn log.tells data_device.tells fault)
+  pub refused : WhereStillTold log_after.tells data_after.tells (HasOpeningCauseIn log.tells data_device.tells fault)
   pub lengths : HasLengthCause log.size data_device.size fault
   pub kept : WhereStillTold log_after.tells data_after.tells (WhereRefused log data_device (IsUnchanged log log_after × IsUnchanged data_device data_after))
   pub log_failed : fault ≡ LogDev → HasRisen log.faults log_after.faults
@@ -136,9 +141,9 @@ pub record ReadsThenWrites {L D : Type 0} (log_gives : L → Call → L → Type
   pub data_device : MakesCalls data_gives data_old data_read AreReads
   pub inside : WritesInside log_gives data_gives shape log_read log_new data_read data_new
 
--- NOTHING OUTSIDE THE STORE IS WRITTEN, by the shape with which what reads give is read, and by the one that is opened.
+-- NOTHING OUTSIDE THE STORE IS WRITTEN, by the shape of a run on what reads give, and by the one that is opened.
 pub record OpensInside {L D : Type 0} (log_gives : L → Call → L → Type 0) (data_gives : D → Call → D → Type 0) (log_told data_told log_now data_now : Option Disk) (log : L) (data_device : D)
     (result : OpenResult L D) : Type 0 where
   pub read : WhereStillTold log_now data_now ((reading : Reading) → OnContents log_told data_told (λ log_bytes data_bytes. IsReading log_bytes data_bytes reading
-      → ReadsThenWrites log_gives data_gives reading.shape log (log_device_left result) data_device (data_device_left result)))
+      → ReadsThenWrites log_gives data_gives (run_shape reading.shape) log (log_device_left result) data_device (data_device_left result)))
   pub opened : IfOk result (λ store. ReadsThenWrites log_gives data_gives store.shape log store.log.dev data_device store.store.dev)
