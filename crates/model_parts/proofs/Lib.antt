@@ -9,6 +9,7 @@ pub mod DataImages
 pub mod Dropping
 pub mod Formatted
 pub mod Fresh
+pub mod Heading
 pub mod Joined
 pub mod Keeping
 pub mod Kept

@@ -3,7 +3,7 @@ use Rattle.std.proofs.Common.{◌≡◌, ◌≤◌, ◌<◌, ◌+◌, ◌*◌, �
 use Rattle.std.specs.List.{slice_get}
 use Rattle.model_base.specs.declared.shape.Shape.{Shape}
 use Rattle.model_base.specs.declared.limits.TheConstants.{START_LSN}
-use Rattle.model_base.specs.{IsWithinLimits}
+use Rattle.model_base.specs.{IsWithinLimits, run_shape}
 use Rattle.model_device.specs.{sector}
 use Rattle.model_log.specs.declared.group.Whole.{Whole}
 use Rattle.model_log.specs.declared.head.Format.{Format}
@@ -194,28 +194,55 @@ pub record IsNextFound (opened : Reading) (format : Format) (number : ℕ) (imag
   pub newest : newest_checkpoint (layout_of format opened.shape) image ≡ Some (number, start_block opened)
   pub none : taken (layout_of format opened.shape) image (start_block opened) ≡ None
 
-pub next-reads : (opened : Reading) (format : Format) (number : ℕ) (log_bytes data_bytes new_log new_data : List ℕ) → IsReading log_bytes data_bytes opened
-    → IsNextFound opened format number new_log → IsRewritten opened new_data → ReadsOpened opened new_log new_data
-next-reads opened format number log_bytes data_bytes new_log new_data reads next rewritten =
+-- the opened store by these sizes: by its own, or by those of a run on it, which differ in the slots alone
+abbrev pub by_shape : Shape → Reading → Reading
+by_shape shape opened = record opened { shape = shape }
+
+abbrev pub IsForSameRun : Shape → Reading → Type 0
+IsForSameRun shape opened = run_shape shape ≡ run_shape opened.shape
+
+pub same-log_blocks : (shape : Shape) (opened : Reading) → IsForSameRun shape opened
+    → shape.log_blocks ≡ opened.shape.log_blocks
+same-log_blocks shape opened sizes = ap (λ (s : Shape). s.log_blocks) sizes
+
+pub same-pages : (shape : Shape) (opened : Reading) → IsForSameRun shape opened → shape.pages ≡ opened.shape.pages
+same-pages shape opened sizes = ap (λ (s : Shape). s.pages) sizes
+
+pub next-reads_by : (opened : Reading) (shape : Shape) (format : Format) (number : ℕ)
+    (log_bytes data_bytes new_log new_data : List ℕ) → IsReading log_bytes data_bytes opened
+    → IsForSameRun shape opened → IsNextFound (by_shape shape opened) format number new_log
+    → IsRewritten (by_shape shape opened) new_data → ReadsOpened opened new_log new_data
+next-reads_by opened shape format number log_bytes data_bytes new_log new_data reads sizes next rewritten =
     let log : IsLogRead log_bytes opened = log-read log_bytes data_bytes opened reads in
-    let layout : Layout = layout_of format opened.shape in
+    let layout : Layout = layout_of format shape in
     let at : start_block opened + 12 ≡ start_of opened = omega (arith, log.log.low) in
-    let scan : IsScan opened.shape layout.blocks (taken layout new_log) (start_block opened) [] [] (start_of opened) =
-    subst (λ (end : ℕ). IsScan opened.shape layout.blocks (taken layout new_log) (start_block opened) [] [] end) at
-    (empty-scan opened.shape layout.blocks (taken layout new_log) (start_block opened) next.none) in
+    let scan : IsScan shape layout.blocks (taken layout new_log) (start_block opened) [] [] (start_of opened) =
+    subst (λ (end : ℕ). IsScan shape layout.blocks (taken layout new_log) (start_block opened) [] [] end) at
+    (empty-scan shape layout.blocks (taken layout new_log) (start_block opened) next.none) in
     record {
-      reading = record opened { format = format; number = number; ckpt = start_block opened; views = []; wholes = []; end = start_of opened };
+      reading = record opened {
+        format = format;
+        shape = shape;
+        number = number;
+        ckpt = start_block opened;
+        views = [];
+        wholes = [];
+        end = start_of opened;
+      };
       is_read = record {
         scan = record {
           devices = record {
-            head = record { long = omega (arith, next.long, log.limits.many_blocks); head = next.head };
+            head = record {
+              long = omega (arith, next.long, log.limits.many_blocks, same-log_blocks shape opened sizes);
+              head = next.head;
+            };
             log_long = next.long;
             data_long = rewritten.long;
           };
           checkpoint = next.newest;
           scan = scan;
         };
-        count = reads.count;
+        count = reads.count ∙ sym (same-pages shape opened sizes);
         each = λ p page at_page. record {
           kept = page;
           is_kept = rewritten.each p page at_page;
@@ -224,10 +251,15 @@ next-reads opened format number log_bytes data_bytes new_log new_data reads next
         };
       };
       old_copies = rewritten.old_copies;
-      shape = refl;
+      shape = sizes;
       pages = refl;
       log = inr (record { later = next.later; up_to = next.up_to; ckpt = refl; wholes = refl; end = refl });
     }
+
+pub next-reads : (opened : Reading) (format : Format) (number : ℕ) (log_bytes data_bytes new_log new_data : List ℕ) → IsReading log_bytes data_bytes opened
+    → IsNextFound opened format number new_log → IsRewritten opened new_data → ReadsOpened opened new_log new_data
+next-reads opened format number log_bytes data_bytes new_log new_data reads next rewritten =
+    next-reads_by opened opened.shape format number log_bytes data_bytes new_log new_data reads refl next rewritten
 
 -- the next checkpoint has a number and an lsn within the limits
 pub record HasNext (opened : Reading) : Type 0 where
