@@ -7,6 +7,7 @@ pub mod Clearing
 pub mod DataCrashes
 pub mod DataImages
 pub mod Dropping
+pub mod Enlarging
 pub mod Formatted
 pub mod Fresh
 pub mod Heading

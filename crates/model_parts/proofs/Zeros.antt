@@ -11,11 +11,11 @@ use Rattle.model_parts.specs.BatchKept.{IsOpened}
 use Rattle.model_parts.proofs.Stretches.{stretch-piece}
 use Rattle.model_parts.proofs.Writes.{sizes-from, stretch-ends}
 
-zeros-blank : (n : ℕ) → is_blank (replicate n 0) ≡ true
+pub zeros-blank : (n : ℕ) → is_blank (replicate n 0) ≡ true
 zeros-blank zero = refl
 zeros-blank (suc n) = zeros-blank n
 
-check-blank : (bytes : List ℕ) → is_blank bytes ≡ true → page_check bytes ≡ Blank
+pub check-blank : (bytes : List ℕ) → is_blank bytes ≡ true → page_check bytes ≡ Blank
 unfolding page_check
 check-blank bytes blank = rw blank refl
 
@@ -35,7 +35,7 @@ user-zeros shape =
     ∙ ap (take (size - PAGE_TRAILER - USER_START)) (drop-replicate USER_START size 0)
     ∙ take-replicate (size - PAGE_TRAILER - USER_START) (size - USER_START) 0 (omega arith) ∙ ap (λ k. replicate k 0) end
 
-none-some : (x : ℕ) (o : Option ℕ) → o ≡ None → o ≡ Some x → ⊥
+pub none-some : (x : ℕ) (o : Option ℕ) → o ≡ None → o ≡ Some x → ⊥
 none-some x o none some = let both : None ≡ Some x = sym none ∙ some in absurd cc
 
 pub zeros-opened : (shape : Shape) (long : ℕ) → IsWithinLimits shape → data_device_length shape ≤ long
