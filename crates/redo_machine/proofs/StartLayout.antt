@@ -1,6 +1,5 @@
 -- Which words a run begins with is told by the shape of the opened store.
-use Rattle.std.proofs.Common.{Bool, List, ap, sym, ◌∙◌, ◌≡◌}
-use Rattle.model_base.specs.declared.shape.Shape.{Shape}
+use Rattle.std.proofs.Common.{Bool, List, ◌≡◌}
 use Rattle.model_core.specs.{Given}
 use Rattle.model_core.specs.declared.words.Layout.{Layout}
 use Rattle.model_script.specs.declared.script.ScriptLine.{ScriptLine}
