@@ -21,7 +21,6 @@ use Rattle.redo_drive.specs.declared.drive.RunEnd.{RunEnd}
 use Rattle.redo_drive.specs.declared.drive.RunEnd.TheVariants as ran
 use Rattle.redo_machine.specs.declared.drive.Turns.{Turns}
 use Rattle.redo_store.specs.declared.opened.Opened.{Opened}
-use Rattle.redo_words.specs.Plain.{shape_layout}
 
 -- the turns of a seed, at most so many, led from the first state to the last, where the run ended so
 abbrev pub EndsAs : {D : LogSide} {E : DataSide} (store : TurnStore D E) (seed max : ℕ) → store.State → RunEnd
@@ -34,7 +33,7 @@ EndsAs store seed max first (ran.Spent turns user) last = (turns ≡ max) × IsS
 pub record NothingIsDone {L D : Type 0} (log_seen : L → Seen) (data_seen : D → Seen) (opened : Opened L D)
     (script : List ScriptLine) (log_only archive : Bool) (followers : ℕ)
     (store : Core (turn_log_side log_seen) (turn_data_side data_seen)) : Type 0 where
-  pub layout : store.layout ≡ shape_layout opened.shape
+  pub layout : store.layout ≡ record { pages = opened.shape.pages; page_size = opened.shape.page_size }
   pub words : store.words ≡ flat (first_words opened.shape.page_size opened.start opened.pages)
   pub actors : store.actors ≡ seated_actors opened.shape script opened.start log_only archive followers
   pub log : store.log_part ≡ opened.log
