@@ -8,6 +8,7 @@ pub mod FollowsRun
 pub mod PlayedNext
 pub mod RunLeft
 pub mod Runs
+pub mod StartLayout
 pub mod TurnBeside
 pub mod UserSeats
 pub mod WriteAsks

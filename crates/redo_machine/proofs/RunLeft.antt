@@ -32,6 +32,7 @@ use Rattle.redo_machine.proofs.Alone as alone
 use Rattle.redo_machine.proofs.ArchiveEnds.{have_archived, loses_by}
 use Rattle.redo_machine.specs.Appending.{lost_by}
 use Rattle.redo_machine.proofs.EndsAs.{ends_as, turns_taken}
+use Rattle.redo_machine.proofs.StartLayout.{start_layout}
 use Rattle.redo_machine.specs.ByTurns.{EndsAs, NothingIsDone, RunsByTurns, turn_store}
 use Rattle.redo_drive.specs.Begins.{BeginsWith}
 use Rattle.redo_drive.specs.History.{ListsInOrder}
@@ -116,6 +117,8 @@ module _ {L D A R : Type 0} {arch_gives : A → Call → A → Type 0} (log_seen
   begins : NothingIsDone log_seen data_seen opened script turns.log_only (is_some before) (length followers)
       (thin log_seen data_seen run first)
   begins = let stood = by.begins.stands in record {
+    layout = start_layout log_seen data_seen stands opened script turns.log_only (is_some before) followers by.first
+        by.begins;
     words = by.begins.words;
     actors = stood.are_new
         ∙ ap (λ (b : Bool). seated_actors opened.shape script opened.start b (is_some before) (length followers))

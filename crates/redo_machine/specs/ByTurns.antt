@@ -28,11 +28,12 @@ abbrev pub EndsAs : {D : LogSide} {E : DataSide} (store : TurnStore D E) (seed m
 EndsAs store seed max first ran.Done last = IsDone store seed max first last
 EndsAs store seed max first (ran.Spent turns user) last = (turns ≡ max) × IsSpent store seed max user first last
 
--- NOTHING IS DONE YET: the words are those with which a run begins, the actors of the script are new and in their
--- seats, both parts are those that were opened, and no page is listed.
+-- NOTHING IS DONE YET: the words are those with which a run begins, laid out for the opened pages and their size, the
+-- actors of the script are new and in their seats, both parts are those that were opened, and no page is listed.
 pub record NothingIsDone {L D : Type 0} (log_seen : L → Seen) (data_seen : D → Seen) (opened : Opened L D)
     (script : List ScriptLine) (log_only archive : Bool) (followers : ℕ)
     (store : Core (turn_log_side log_seen) (turn_data_side data_seen)) : Type 0 where
+  pub layout : store.layout ≡ record { pages = opened.shape.pages; page_size = opened.shape.page_size }
   pub words : store.words ≡ flat (first_words opened.shape.page_size opened.start opened.pages)
   pub actors : store.actors ≡ seated_actors opened.shape script opened.start log_only archive followers
   pub log : store.log_part ≡ opened.log

@@ -42,6 +42,7 @@ use Rattle.redo_follow.specs.Following.{Following}
 use Rattle.redo_logdev.specs.Part as log
 use Rattle.redo_machine.proofs.ArchiveEnds.{have_archived, loses_by}
 use Rattle.redo_machine.proofs.EndsAs.{ends_as, turns_taken}
+use Rattle.redo_machine.proofs.StartLayout.{start_layout}
 use Rattle.redo_machine.specs.Appending.{lost_by}
 use Rattle.redo_machine.specs.ByTurns.{EndsAs, NothingIsDone, RunsByTurns, turn_store}
 use Rattle.redo_machine.specs.declared.drive.Turns.{Turns}
@@ -153,6 +154,9 @@ module _ {L D A R : Type 0} {arch_gives : A → Call → A → Type 0} (log_seen
   begins : NothingIsDone log_seen data_seen opened script turns.log_only (is_some before) (length followers)
       (with_writer (own_thin log_seen data_seen run first))
   begins = let stood = begins_at in record {
+    layout = ap (λ (p : Parts L D). p.words.layout) by.start.parts
+        ∙ start_layout log_seen data_seen stands opened script turns.log_only (is_some before) followers by.start.start
+        by.start.begins;
     words = ap (λ (p : Parts L D). p.words.words) by.start.parts ∙ by.start.begins.words;
     actors = stood.are_new
         ∙ ap (λ (b : Bool). seated_actors opened.shape script opened.start b (is_some before) (length followers))
