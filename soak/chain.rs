@@ -4,7 +4,7 @@ use crate::case::{ARCHIVE_FILE, Case, Left};
 use crate::checking::Store;
 use crate::listing::{check_dump, check_recover, read_of};
 use crate::program::words_of;
-use crate::shape::{DEFAULT_SHAPE, SLOTS, Shape, draw_large};
+use crate::shape::{DEFAULT_SHAPE, NEWEST, SLOTS, Shape, draw_large};
 use std::fs;
 
 pub struct Chain<'a, 'b> {
@@ -19,8 +19,6 @@ pub struct Chain<'a, 'b> {
 const FILES: [&str; 3] = ["redo.log", "redo.data", ARCHIVE_FILE];
 /// How many pages its stores have.
 const PAGES: [u32; 12] = [1, 2, 8, 8, 8, 9, 17, 64, 64, 65, 200, 1_024];
-/// The format of a store that the program makes.
-const FORMAT: u64 = 3;
 
 impl<'a, 'b> Chain<'a, 'b> {
     pub fn new(case: &'a mut Case<'b>) -> Chain<'a, 'b> {
@@ -133,7 +131,7 @@ impl<'a, 'b> Chain<'a, 'b> {
             return call.answers(8, "fault store unformatted\n");
         }
         call.has_succeeded()?;
-        let groups = check_dump(&mut self.store, FORMAT, &call.printed)?;
+        let groups = check_dump(&mut self.store, NEWEST, &call.printed)?;
         let call = self.case.call(&words_of("recover --files"), "")?;
         call.has_succeeded()?;
         check_recover(&self.store, &read_of(&call.printed)?, groups)

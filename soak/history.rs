@@ -22,7 +22,9 @@ use crate::program::{Call, words_of};
 use crate::report::Report;
 use crate::restoring::Reading;
 use crate::script::{Line, MOST_BYTES, group_length, misfit};
-use crate::shape::{DEFAULT_SHAPE, EARLY_SLOTS, MOST_EARLY_PAGES, SLOTS, Shape, draw_large};
+use crate::shape::{
+    DEFAULT_SHAPE, EARLY_SLOTS, MOST_EARLY_PAGES, NEWEST, SLOTS, Shape, draw_large,
+};
 use crate::since::{Run, Since};
 use crate::tally::Tally;
 use crate::tears::{Cut, draw_junk};
@@ -280,7 +282,9 @@ impl<'a> History<'a> {
         };
         if let Some((store, asked, report)) = ended {
             let read = read_of(&call.printed)?;
+            let shape = known.shape;
             known = check_read(store, asked, report, read.end, read.pages)?;
+            known.shape = shape;
         }
         self.take(known, &call)?;
         self.restore()?;
@@ -331,13 +335,12 @@ impl<'a> History<'a> {
         Ok(events)
     }
 
-    /// Whether the store becomes one of an older format. One of format 3 mostly stays one.
+    /// Whether the store becomes one of an older format. It mostly stays what it is.
     fn becomes_older(&mut self, head: &Head) -> bool {
-        let seldom = if head.format == 2 { 10 } else { 20 };
-        head.may_be_older() && self.draws.once_in(seldom)
+        head.may_be_older() && self.draws.once_in(12)
     }
 
-    /// Makes the store one of an older format. The next run brings one of format 1 to format 2.
+    /// Makes the store one of an older format. The next run takes it to format 3.
     fn make_older(&mut self, mut store: Store) -> Result<(), String> {
         let Older { shape, log, data } = older(&mut self.draws, &self.files.contents)?;
         self.files.put(LOG, log)?;
@@ -487,7 +490,7 @@ impl<'a> History<'a> {
     fn run_on(&mut self, old: Option<Store>) -> Result<(), String> {
         let store = old.clone().unwrap_or(Store::default_sizes());
         let format = old.as_ref().map(|_| self.files.head()).transpose()?;
-        let is_older = format.is_some_and(|head| head.format == 1);
+        let is_older = format.is_some_and(|head| head.format != NEWEST);
         let script = self.draw_run_script(&store);
         let text = text_of(&mut self.draws, &script.lines);
         let plan = self.draw_plan(old.is_some());
@@ -595,7 +598,7 @@ impl<'a> History<'a> {
         self.tally.dropped += dropped.count() as u64;
         let ring = store.shape.ring();
         self.tally.wraps += u64::from(known.end / ring > store.end / ring);
-        self.tally.migrations += u64::from(is_older && self.files.head()?.format == 2);
+        self.tally.migrations += u64::from(is_older && self.files.head()?.format == NEWEST);
         Ok(())
     }
 
@@ -667,7 +670,7 @@ impl<'a> History<'a> {
         Plan { crashes, stops, .. }: Plan,
         is_older: bool,
     ) -> Options {
-        let which = if is_older { 1 } else { self.draws.below(4) };
+        let which = self.draws.below(4);
         let start = start_after(store.end);
         let followers = draw_followers(&mut self.beside, false);
         let own_writes = draw_own_writes(&mut self.beside, false, script.threads);

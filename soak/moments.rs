@@ -1,7 +1,9 @@
 //! Moments of a call, at which it is cut or killed, and how far it came by then.
 
+use crate::crc::field;
 use crate::draws::Draws;
-use crate::events::{Event, LOG, What, is_block, synced, writes_of};
+use crate::events::{Event, LOG, What, Write, is_block, synced, writes_of};
+use crate::shape::NEWEST;
 
 /// How far a call came.
 #[derive(Clone, Copy, PartialEq)]
@@ -50,7 +52,7 @@ pub fn draw_moment_before_sync(draws: &mut Draws, events: &[Event], device: usiz
     }
 }
 
-/// A moment of a run: in half of the draws one of opening, where a store of format 1 is migrated too.
+/// A moment of a run: in half of the draws one of opening, where a store of an older format is migrated too.
 pub fn draw_moment_of_run(draws: &mut Draws, events: &[Event], is_older: bool) -> usize {
     if !is_older && draws.once_in(2) {
         return draw_moment(draws, events);
@@ -84,6 +86,11 @@ fn first_checkpoint(events: &[Event]) -> Option<usize> {
     })
 }
 
+/// Whether the write puts the head into the first block that ends a migration.
+fn is_newest_head(write: &Write) -> bool {
+    write.at == 0 && field(&write.bytes, 0, 4) == NEWEST
+}
+
 pub fn stage_of(events: &[Event], is_older: bool) -> Stage {
     if events.iter().any(is_block) {
         return Stage::Running;
@@ -96,7 +103,7 @@ pub fn stage_of(events: &[Event], is_older: bool) -> Stage {
     match (is_older, synced > 0) {
         (false, false) => Stage::Opening,
         (false, true) => Stage::Running,
-        (true, _) if writes_of(&rest[..synced], LOG).any(|write| write.at == 0) => Stage::Running,
+        (true, _) if writes_of(&rest[..synced], LOG).any(is_newest_head) => Stage::Running,
         (true, _) => Stage::Migrating,
     }
 }

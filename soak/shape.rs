@@ -10,6 +10,8 @@ pub const PAGE_SIZE: u32 = 4_096;
 pub const LARGE_PAGE_SIZE: u32 = 16_384;
 /// What stands in a page behind its user bytes: the second checksum, and the low half of its lsn.
 const PAGE_TRAILER: u64 = 8;
+/// The format of a store that the program makes or has run on.
+pub const NEWEST: u64 = 3;
 /// The doublewrite slots of a store of format 3, and its pages at the most.
 pub const SLOTS: u32 = 128;
 pub const MOST_PAGES: u32 = 1_024;
@@ -36,6 +38,14 @@ impl Shape {
             _ => return false,
         };
         (1..=most).contains(&self.pages)
+    }
+
+    /// The shape of a run on a store of this one, which its opening takes to format 3.
+    pub fn of_run(self) -> Shape {
+        Shape {
+            slots: SLOTS,
+            ..self
+        }
     }
 
     pub fn is_large(&self) -> bool {

@@ -50,8 +50,8 @@ impl Run {
         kept.max(told.map_or(0, |marks| marks.flushed))
     }
 
-    /// The store that it leaves where the log ends here, if there is a place between its groups.
-    fn upto(&self, end: u64, events: &[Event]) -> Result<Option<Store>, String> {
+    /// The store that it leaves with this shape where the log ends here, if there is a place between its groups.
+    fn upto(&self, shape: Shape, end: u64, events: &[Event]) -> Result<Option<Store>, String> {
         let start = start_after(self.store.end);
         if !is_boundary(&self.report, start, end) {
             return Ok(None);
@@ -60,7 +60,12 @@ impl Run {
         ensure(end <= given.max(start), || {
             format!("the log ends at {end}, and was given up to {given}")
         })?;
+        let is_opened = start < end || self.is_told && self.report.start.is_some();
+        ensure(!is_opened || shape == shape.of_run(), || {
+            "a run on a store that wasn't taken to format 3".to_string()
+        })?;
         let mut known = self.store.clone();
+        known.shape = shape;
         known.opened_at(start)?;
         take_groups(&mut known, &self.lines, &self.report, end);
         if let Some(marks) = self.report.marks.as_ref().filter(|_| self.is_told) {
@@ -202,10 +207,14 @@ impl Since {
         steps: &[Step],
         (shape, end, pages): (Shape, u64, &str),
     ) -> Result<Store, String> {
-        ensure(base.shape == shape, || "another shape".to_string())?;
+        // opening was stopped, or has taken the store to format 3
+        let is_shape = [base.shape, base.shape.of_run()].contains(&shape);
+        ensure(is_shape, || "another shape".to_string())?;
+        let mut base = base.clone();
+        base.shape = shape;
         let mut found = Err(format!("{end} is no place between groups"));
         if end == base.end {
-            found = with_pages(base.clone(), pages);
+            found = with_pages(base, pages);
         }
         for step in steps {
             let Step::Runs(run) = step else {
@@ -215,7 +224,7 @@ impl Since {
             ensure(kept <= end, || {
                 format!("the log ends at {end}, and what ends at {kept} was to stay")
             })?;
-            let reached = run.upto(end, &self.events).transpose();
+            let reached = run.upto(shape, end, &self.events).transpose();
             let reached = reached.map(|known| known.and_then(|known| with_pages(known, pages)));
             // a run that was killed in opening may have begun where a later one does
             if let Some(reached) = reached
