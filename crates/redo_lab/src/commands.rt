@@ -108,7 +108,7 @@ pub(crate) fn source_in_threads<
     S: Source,
     L: Sectors + Send,
     D: Sectors + Send,
-    A: Sectors + Drop + Send,
+    A: Sectors + Send,
     G: Gate,
 >(
     rt: &R,

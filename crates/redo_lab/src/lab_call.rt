@@ -51,7 +51,7 @@ pub fn lab<
     O: Sink,
     L: Sectors + Send,
     D: Sectors + Send,
-    A: Sectors + Drop + Send,
+    A: Sectors + Send,
     G: Gate,
     R: Threads + Wait + Sync,
 >(

@@ -129,7 +129,7 @@ pub(crate) fn in_threads<
     R: Threads + Wait + Sync,
     L: Sectors + Send,
     D: Sectors + Send,
-    A: Sectors + Drop + Send,
+    A: Sectors + Send,
     G: Gate,
 >(
     rt: &R,

@@ -23,6 +23,7 @@ use Rattle.redo_archive.specs.Part.{Part}
 use Rattle.redo_rule.specs.declared.law.Block.{Block}
 use Rattle.redo_threads.specs.Archiving.{GoesOnWith, KeepsArchive, MayArchive, MayWork, WorksOn}
 use Rattle.redo_threads.specs.Working.{GoesOn}
+use Rattle.redo_threads.specs.declared.crew.Seated.{Seated}
 use Rattle.redo_threads.specs.declared.crew.Worker.{Worker}
 
 -- a follower is the same, and its receiver got nothing; and then it is the same again, and its receiver got more
@@ -127,6 +128,15 @@ module _ {L D F : Type 0} (stands : F → List Given → Type 0) where
       player = same_trans p q r h.player k.player;
     }
 
+    -- what the promise of a player's thread says
+    pub goes_promised : (p w v : Seated L D F) → p ≡ w → IsPlayerSeat table w.seat w.player
+        → GoesOn stands p.seat.table_id p.seat p.player v.seat v.player
+        → GoesOn stands table w.seat w.player v.seat v.player
+    goes_promised p w v e sits h =
+        subst (λ (m : TableId). GoesOn stands m w.seat w.player v.seat v.player)
+        (at_table table w.seat w.player sits)
+        (subst (λ (q : Seated L D F). GoesOn stands q.seat.table_id q.seat q.player v.seat v.player) e h)
+
     -- THE SAME WITH AN ARCHIVE, or without
     module _ {A : Type 0} (seen : A → Seen) (gives : A → Call → A → Type 0) where
       pub with_refl : (s : Seat (Slot L D) (View L D)) (p : Player F) (a : Option (Part A)) → IsPlayerSeat table s p
@@ -165,16 +175,6 @@ module _ {L D F : Type 0} (stands : F → List Given → Type 0) where
       may_still s t p q None (Some part) may on = absurd (let z : Some part ≡ None = on.archive.none refl in cc)
       may_still s t p q (Some part) None may on = tt
       may_still s t p q (Some part) (Some later) may on = (may.0, may.1, on.archive.some may.0 may.1 may.2)
-
-      -- what the promise of a worker says
-      pub with_promised : (p w v : Worker L D A F) → p ≡ w → IsPlayerSeat table w.seat w.player
-          → GoesOnWith seen gives stands p.seat.table_id p.seat p.player p.archive v.seat v.player v.archive
-          → GoesOnWith seen gives stands table w.seat w.player w.archive v.seat v.player v.archive
-      with_promised p w v e sits h =
-          subst (λ (m : TableId). GoesOnWith seen gives stands m w.seat w.player w.archive v.seat v.player v.archive)
-          (at_table table w.seat w.player sits)
-          (subst (λ (q : Worker L D A F).
-          GoesOnWith seen gives stands q.seat.table_id q.seat q.player q.archive v.seat v.player v.archive) e h)
 
       -- a worker, if there is one
       pub works_refl : (w : Option (Worker L D A F)) → MayWork seen gives table w → WorksOn seen gives stands table w w

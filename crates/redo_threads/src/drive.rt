@@ -22,15 +22,15 @@ use std::alloc::Global;
 use std::sync::Wait;
 use std::thread::Threads;
 
-/// Runs a script on an opened store in threads, one for each player, with the log alone or with the pages, with this archive or
-/// none, and with these followers. Where `own_writes` is set, users write for themselves, and there is no thread of a writer and
+/// Runs a script on an opened store in threads, one for each player, the archiver's the caller's, with the log alone or with the
+/// pages, with this archive or none, and with these followers. Where `own_writes` is set, users write for themselves, and there is no thread of a writer and
 /// none of a flusher. With what the run leaves it gives the actors back, the followers among them, and the archive. Where there
 /// is no memory it gives both devices back as they were, and the archive.
 pub fn drive_in_threads<
     R: Threads + Wait + Sync,
     L: Sectors + Send,
     D: Sectors + Send,
-    A: Sectors + Drop + Send,
+    A: Sectors + Send,
     F: Receiver + Drop + Send,
     G: Gate,
 >(

@@ -1,8 +1,8 @@
 //! The drive of a run in threads: one for each player, over the table that they share.
 //!
 //! `run_threads` gives each player its seat, and lets each play in a thread of its own until all users have ended and nobody
-//! else holds a turn or a tail. Where a thread can't be started, the caller plays in its place. A test may hold users at a gate,
-//! and refuse threads there. Users that write for themselves play as others do.
+//! else holds a turn or a tail. The archiver's is the caller's. Where a thread can't be started, the caller plays in its place.
+//! A test may hold users at a gate, and refuse threads there. Users that write for themselves play as others do.
 #![tactic(auto)]
 
 mod archiving;

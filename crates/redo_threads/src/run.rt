@@ -22,7 +22,7 @@ ghost use Rattle.redo_threads.specs.Ended.{HaveRun};
 ghost use Rattle.redo_threads.specs.Working.{AreAtEnd, AreSeated, KeepOn};
 
 use crate::bells::Bells;
-use crate::crew::Crew;
+use crate::crew::{Crew, Seated, Worker};
 use crate::gate::Gate;
 use crate::starting::play_all;
 use crate::work::user_of;
@@ -93,7 +93,7 @@ fn play_crew<
     R: Threads + Wait + Sync,
     L: Sectors + Send,
     D: Sectors + Send,
-    A: Sectors + Drop + Send,
+    A: Sectors,
     F: Receiver + Drop + Send,
     G: Gate,
 >(
@@ -114,18 +114,31 @@ fn play_crew<
     ensures archive { LeavesArchive A.seen A.gives crew archive result.0 result.1 }
 {
     let Some(part) = archive else {
-        let (crew, _none) = play_all::<R, L, D, A, F, G>(
+        let (crew, nobody) = play_all::<R, L, D, A, F, G>(
             rt, table, layout, bells, gate, crew, None,
         );
-        return (crew, None);
+        match nobody {
+            None => return (crew, None),
+            Some(_worker) => unreachable!(),
+        }
     };
     let place = archiver_at(crew.players.as_slice());
-    let worker = crew.take_out(place, Some(part));
+    let Seated { seat, player } = crew.take_out(place);
+    let worker = Worker {
+        seat,
+        player,
+        archive: Some(part),
+    };
     let (mut played, archiver) = play_all(rt, table, layout, bells, gate, crew, Some(worker));
     let Some(worker) = archiver else {
         unreachable!()
     };
-    let archive = played.put_back(place, worker);
+    let Worker {
+        seat,
+        player,
+        archive,
+    } = worker;
+    played.put_back(place, Seated { seat, player });
     (played, archive)
 }
 
@@ -140,14 +153,14 @@ fn lost_by<A: Sectors>(archive: &Option<ArchPart<A>>) -> Option<DevError>
 }
 
 /// Plays the players of a store that they share, each in a thread of its own where one can be started, until each user has ended
-/// and nobody else holds a turn or a tail; the archiver among them, if the run is archived, with this archive. It takes no
-/// memory. With what the run leaves it gives its actors back, with the writer and the flusher as far as users that wrote for
-/// themselves have brought them, and the archive.
+/// and nobody else holds a turn or a tail; the archiver among them, if the run is archived, with this archive, in the caller's
+/// thread, which the archive's device never leaves. It takes no memory. With what the run leaves it gives its actors back, with
+/// the writer and the flusher as far as users that wrote for themselves have brought them, and the archive.
 pub fn run_threads<
     R: Threads + Wait + Sync,
     L: Sectors + Send,
     D: Sectors + Send,
-    A: Sectors + Drop + Send,
+    A: Sectors + Send,
     F: Receiver + Drop + Send,
     G: Gate,
 >(

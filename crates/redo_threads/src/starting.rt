@@ -2,13 +2,13 @@
 ghost use Rattle.std.specs.Prelude.{IfErr, IfOk, length, ◌≡◌, ◌≤◌};
 ghost use Rattle.redo_ownrule.specs.Playing.{IsPlayerSeat};
 ghost use Rattle.redo_rule.specs.Sharing.{AreLaidOut};
-ghost use Rattle.redo_threads.specs.Archiving.{AtItsEnd, GoesOnWith, IsLaidOut, MayArchive, MayWork, WorksOn};
-ghost use Rattle.redo_threads.specs.Working.{AreAtEnd, AreSeated, KeepOn};
+ghost use Rattle.redo_threads.specs.Archiving.{AtItsEnd, IsLaidOut, MayWork, WorksOn};
+ghost use Rattle.redo_threads.specs.Working.{AreAtEnd, AreSeated, GoesOn, KeepOn};
 
 use crate::bells::Bells;
-use crate::crew::{Crew, Worker, play_here, to_ends};
+use crate::crew::{Crew, Seated, Worker, archiver_to_end, play_here, to_ends};
 use crate::gate::Gate;
-use crate::work::work;
+use crate::work::work_alone;
 use redo_disk::Sectors;
 use redo_follow::Receiver;
 use redo_rule::Ring;
@@ -23,21 +23,17 @@ const NOBODY: u64 = u64::MAX;
 
 /// The promise of a player's thread: what it gives back has gone on from what it was given.
 #[derive(Drop)]
-pub(crate) struct FromWorker<L: Sectors, D: Sectors, A: Sectors, F: Receiver>(
-    Snapshot<Worker<L, D, A, F>>,
-);
+pub(crate) struct FromSeated<L: Sectors, D: Sectors, F: Receiver>(Snapshot<Seated<L, D, F>>);
 
-impl<L: Sectors, D: Sectors, A: Sectors, F: Receiver> Promise<Worker<L, D, A, F>>
-    for FromWorker<L, D, A, F> {
-    ghost use Rattle.redo_threads.specs.Archiving.{GoesOnWith};
+impl<L: Sectors, D: Sectors, F: Receiver> Promise<Seated<L, D, F>> for FromSeated<L, D, F> {
+    ghost use Rattle.redo_threads.specs.Working.{GoesOn};
 
-    ghost kept_by = { λ p r. GoesOnWith A.seen A.gives F.stands_for p.0.value.seat.table_id p.0.value.seat
-        p.0.value.player p.0.value.archive r.seat r.player r.archive };
+    ghost kept_by = { λ p r. GoesOn F.stands_for p.0.value.seat.table_id p.0.value.seat p.0.value.player r.seat r.player };
 }
 
 /// What a thread does: it lets its player play up to the end. Where the thread couldn't be started, the caller has noted its
 /// number and calls this itself, to get the player back as it was.
-fn work_or_return<R: Wait, L: Sectors, D: Sectors, A: Sectors, F: Receiver, G: Gate>(
+fn work_or_return<R: Wait, L: Sectors, D: Sectors, F: Receiver, G: Gate>(
     rt: &R,
     table: &Ring<L, D>,
     layout: Layout,
@@ -45,27 +41,24 @@ fn work_or_return<R: Wait, L: Sectors, D: Sectors, A: Sectors, F: Receiver, G: G
     refused: &AtomicU64,
     gate: &G,
     number: u64,
-    mut worker: Worker<L, D, A, F>,
-) -> Worker<L, D, A, F>
-    requires layout { worker.seat.me.0.layout ≡ layout }
-    requires seat { IsPlayerSeat table.now.table_id worker.seat worker.player }
-    requires archive { MayArchive A.seen A.gives worker.seat.me.0 worker.player worker.archive }
-    ensures { GoesOnWith A.seen A.gives F.stands_for table.now.table_id worker.seat worker.player worker.archive
-        result.seat result.player result.archive }
+    mut seated: Seated<L, D, F>,
+) -> Seated<L, D, F>
+    requires layout { seated.seat.me.0.layout ≡ layout }
+    requires seat { IsPlayerSeat table.now.table_id seated.seat seated.player }
+    ensures { GoesOn F.stands_for table.now.table_id seated.seat seated.player result.seat result.player }
 {
     if refused.load(Ordering::SeqCst) != number {
-        work(
+        work_alone(
             rt,
             table,
             layout,
             bells,
             gate,
-            &mut worker.seat,
-            &mut worker.player,
-            &mut worker.archive,
+            &mut seated.seat,
+            &mut seated.player,
         );
     }
-    worker
+    seated
 }
 
 /// Starts a thread for the player with this number. Where it can't be started, or the gate refuses it, the player
@@ -76,7 +69,6 @@ fn start_one<
     R: Threads + Wait + Sync,
     L: Sectors + Send,
     D: Sectors + Send,
-    A: Sectors + Drop + Send + 's,
     F: Receiver + Drop + Send + 's,
     G: Gate,
 >(
@@ -88,29 +80,27 @@ fn start_one<
     refused: &'s AtomicU64,
     gate: &'s G,
     number: usize,
-    worker: Worker<L, D, A, F>,
-) -> Result<PromisedHandle<Worker<L, D, A, F>, FromWorker<L, D, A, F>>, Worker<L, D, A, F>>
-    requires layout { worker.seat.me.0.layout ≡ layout }
-    requires seat { IsPlayerSeat table.now.table_id worker.seat worker.player }
-    requires archive { MayArchive A.seen A.gives worker.seat.me.0 worker.player worker.archive }
-    ensures ok { IfOk result (λ handle. handle.promise.0.value ≡ worker) }
-    ensures err { IfErr result (λ back. GoesOnWith A.seen A.gives F.stands_for table.now.table_id worker.seat
-        worker.player worker.archive back.seat back.player back.archive) }
+    seated: Seated<L, D, F>,
+) -> Result<PromisedHandle<Seated<L, D, F>, FromSeated<L, D, F>>, Seated<L, D, F>>
+    requires layout { seated.seat.me.0.layout ≡ layout }
+    requires seat { IsPlayerSeat table.now.table_id seated.seat seated.player }
+    ensures ok { IfOk result (λ handle. handle.promise.0.value ≡ seated) }
+    ensures err { IfErr result (λ back. GoesOn F.stands_for table.now.table_id seated.seat seated.player back.seat
+        back.player) }
 {
     if gate.refuses(number) {
-        return Err(worker);
+        return Err(seated);
     }
     let number = number as u64;
-    let promise = FromWorker(Snapshot::of(&worker));
+    let promise = FromSeated(Snapshot::of(&seated));
     match scope.spawn_with(
         promise,
-        move || -> Worker<L, D, A, F>
-            requires layout { worker.seat.me.0.layout ≡ layout }
-            requires seat { IsPlayerSeat table.now.table_id worker.seat worker.player }
-            requires archive { MayArchive A.seen A.gives worker.seat.me.0 worker.player worker.archive }
-            ensures { GoesOnWith A.seen A.gives F.stands_for table.entry.now.table_id worker.seat worker.player
-                worker.archive result.seat result.player result.archive }
-        { work_or_return(rt, table, layout, bells, refused, gate, number, worker) },
+        move || -> Seated<L, D, F>
+            requires layout { seated.seat.me.0.layout ≡ layout }
+            requires seat { IsPlayerSeat table.now.table_id seated.seat seated.player }
+            ensures { GoesOn F.stands_for table.entry.now.table_id seated.seat seated.player result.seat
+                result.player }
+        { work_or_return(rt, table, layout, bells, refused, gate, number, seated) },
     ) {
         Ok(handle) => Ok(handle),
         Err(error) => {
@@ -121,15 +111,15 @@ fn start_one<
 }
 
 /// Starts threads for the first players, as many as are left, the last of them first, and joins them. Who gets no
-/// thread stays behind those that are left: it plays these itself, and the archiver, if that is given, once each of the others
-/// has been tried.
+/// thread stays behind those that are left: it plays these itself, and the archiver, if there is one, once each of the others
+/// has been tried. The archiver's device is the caller's, and no thread takes it.
 fn start<
     's,
     E,
     R: Threads + Wait + Sync,
     L: Sectors + Send,
     D: Sectors + Send,
-    A: Sectors + Drop + Send + 's,
+    A: Sectors,
     F: Receiver + Drop + Send + 's,
     G: Gate,
 >(
@@ -142,34 +132,34 @@ fn start<
     gate: &'s G,
     left: usize,
     mut crew: Crew<L, D, F>,
-    mut archiver: Option<Worker<L, D, A, F>>,
-) -> (Crew<L, D, F>, Option<Worker<L, D, A, F>>)
+    archiver: &mut Option<Worker<L, D, A, F>>,
+) -> Crew<L, D, F>
     requires seated { AreSeated table.now.table_id crew.seats.items crew.players.items }
     requires laid { AreLaidOut layout crew.seats.items }
-    requires archiver { MayWork A.seen A.gives table.now.table_id archiver }
-    requires its { IsLaidOut layout archiver }
+    requires archiver { MayWork A.seen A.gives table.now.table_id archiver.old }
+    requires its { IsLaidOut layout archiver.old }
     requires left { left ≤ length crew.players.items }
-    ensures crew { KeepOn F.stands_for table.now.table_id crew result.0 }
-    ensures archiver { WorksOn A.seen A.gives F.stands_for table.now.table_id archiver result.1 }
+    ensures crew { KeepOn F.stands_for table.now.table_id crew result }
+    ensures archiver { WorksOn A.seen A.gives F.stands_for table.now.table_id archiver.old archiver.new }
 {
     if left == 0 {
-        play_here(rt, table, layout, bells, gate, &mut crew, &mut archiver);
-        return (crew, archiver);
+        play_here(rt, table, layout, bells, gate, &mut crew, archiver);
+        return crew;
     }
     let number = left - 1;
-    let worker = crew.take_out::<A>(number, None);
+    let seated = crew.take_out(number);
     match start_one(
-        scope, rt, table, layout, bells, refused, gate, number, worker,
+        scope, rt, table, layout, bells, refused, gate, number, seated,
     ) {
         Ok(handle) => {
-            let (mut crew, archiver) = start(
+            let mut crew = start(
                 scope, rt, table, layout, bells, refused, gate, number, crew, archiver,
             );
             crew.put_back(number, handle.join(rt));
-            (crew, archiver)
+            crew
         }
-        Err(worker) => {
-            crew.put_back(number, worker);
+        Err(seated) => {
+            crew.put_back(number, seated);
             start(
                 scope, rt, table, layout, bells, refused, gate, number, crew, archiver,
             )
@@ -177,14 +167,14 @@ fn start<
     }
 }
 
-/// The same for all players, of whom the archiver, if there is one, is tried first. Its number is that behind the others'.
+/// The same for all players.
 fn start_all<
     's,
     E,
     R: Threads + Wait + Sync,
     L: Sectors + Send,
     D: Sectors + Send,
-    A: Sectors + Drop + Send + 's,
+    A: Sectors,
     F: Receiver + Drop + Send + 's,
     G: Gate,
 >(
@@ -196,77 +186,32 @@ fn start_all<
     refused: &'s AtomicU64,
     gate: &'s G,
     crew: Crew<L, D, F>,
-    archiver: Option<Worker<L, D, A, F>>,
-) -> (Crew<L, D, F>, Option<Worker<L, D, A, F>>)
+    archiver: &mut Option<Worker<L, D, A, F>>,
+) -> Crew<L, D, F>
     requires seated { AreSeated table.now.table_id crew.seats.items crew.players.items }
     requires laid { AreLaidOut layout crew.seats.items }
-    requires archiver { MayWork A.seen A.gives table.now.table_id archiver }
-    requires its { IsLaidOut layout archiver }
-    ensures crew { KeepOn F.stands_for table.now.table_id crew result.0 }
-    ensures archiver { WorksOn A.seen A.gives F.stands_for table.now.table_id archiver result.1 }
-{
-    let left = crew.players.len();
-    let Some(worker) = archiver else {
-        return start(
-            scope, rt, table, layout, bells, refused, gate, left, crew, None,
-        );
-    };
-    match start_one(scope, rt, table, layout, bells, refused, gate, left, worker) {
-        Ok(handle) => {
-            let (crew, _none) = start::<E, R, L, D, A, F, G>(
-                scope, rt, table, layout, bells, refused, gate, left, crew, None,
-            );
-            (crew, Some(handle.join(rt)))
-        }
-        Err(worker) => start(
-            scope,
-            rt,
-            table,
-            layout,
-            bells,
-            refused,
-            gate,
-            left,
-            crew,
-            Some(worker),
-        ),
-    }
-}
-
-/// The archiver, if there is one, plays up to its end, at which it stands already where it was played in a thread or in turn.
-fn archiver_to_end<R: Wait, L: Sectors, D: Sectors, A: Sectors, F: Receiver, G: Gate>(
-    rt: &R,
-    table: &Ring<L, D>,
-    layout: Layout,
-    bells: &Bells,
-    gate: &G,
-    archiver: &mut Option<Worker<L, D, A, F>>,
-)
     requires archiver { MayWork A.seen A.gives table.now.table_id archiver.old }
     requires its { IsLaidOut layout archiver.old }
-    ensures goes_on { WorksOn A.seen A.gives F.stands_for table.now.table_id archiver.old archiver.new }
-    ensures at_end { AtItsEnd archiver.new }
+    ensures crew { KeepOn F.stands_for table.now.table_id crew result }
+    ensures archiver { WorksOn A.seen A.gives F.stands_for table.now.table_id archiver.old archiver.new }
 {
-    if let Some(worker) = archiver {
-        work(
-            rt,
-            table,
-            layout,
-            bells,
-            gate,
-            &mut worker.seat,
-            &mut worker.player,
-            &mut worker.archive,
-        );
-    }
+    let left = crew.players.len();
+    start(
+        scope, rt, table, layout, bells, refused, gate, left, crew, archiver,
+    )
 }
 
-/// All players play at once, up to their ends, the archiver, if there is one, apart from the others.
-pub(crate) fn play_all<
+/// Ends a loan: what stands there is what the borrower has left.
+fn take_back<T>(lent: &mut T)
+    ensures { lent.new ≡ lent.old }
+{}
+
+/// Lets all players play at once, in threads of a scope, the archiver, if there is one, in the caller's.
+fn play_at_once<
     R: Threads + Wait + Sync,
     L: Sectors + Send,
     D: Sectors + Send,
-    A: Sectors + Drop + Send,
+    A: Sectors,
     F: Receiver + Drop + Send,
     G: Gate,
 >(
@@ -276,7 +221,55 @@ pub(crate) fn play_all<
     bells: &Bells,
     gate: &G,
     crew: Crew<L, D, F>,
-    archiver: Option<Worker<L, D, A, F>>,
+    archiver: &mut Option<Worker<L, D, A, F>>,
+) -> Crew<L, D, F>
+    requires seated { AreSeated table.now.table_id crew.seats.items crew.players.items }
+    requires laid { AreLaidOut layout crew.seats.items }
+    requires archiver { MayWork A.seen A.gives table.now.table_id archiver.old }
+    requires its { IsLaidOut layout archiver.old }
+    ensures crew { KeepOn F.stands_for table.now.table_id crew result }
+    ensures archiver { WorksOn A.seen A.gives F.stands_for table.now.table_id archiver.old archiver.new }
+{
+    let refused = AtomicU64::new(NOBODY);
+    let refused_at = &refused;
+    let (played, back) = scope(
+        scope_env(),
+        rt,
+        |all| -> (Crew<L, D, F>, &mut Option<Worker<L, D, A, F>>)
+            requires seated { AreSeated table.now.table_id crew.seats.items crew.players.items }
+            requires laid { AreLaidOut layout crew.seats.items }
+            requires archiver { MayWork A.seen A.gives table.now.table_id archiver.now }
+            requires its { IsLaidOut layout archiver.now }
+            ensures crew { KeepOn F.stands_for table.entry.now.table_id crew result.0 }
+            ensures archiver { WorksOn A.seen A.gives F.stands_for table.entry.now.table_id archiver.entry.now result.1.now }
+            ensures same { result.1.ghost_name ≡ archiver.entry.ghost_name }
+        {
+            let played = start_all(
+                all, rt, table, layout, bells, refused_at, gate, crew, archiver,
+            );
+            (played, archiver)
+        },
+    );
+    take_back(back);
+    played
+}
+
+/// All players play at once, up to their ends, the archiver, if there is one, apart from the others.
+pub(crate) fn play_all<
+    R: Threads + Wait + Sync,
+    L: Sectors + Send,
+    D: Sectors + Send,
+    A: Sectors,
+    F: Receiver + Drop + Send,
+    G: Gate,
+>(
+    rt: &R,
+    table: &Ring<L, D>,
+    layout: Layout,
+    bells: &Bells,
+    gate: &G,
+    crew: Crew<L, D, F>,
+    mut archiver: Option<Worker<L, D, A, F>>,
 ) -> (Crew<L, D, F>, Option<Worker<L, D, A, F>>)
     requires seated { AreSeated table.now.table_id crew.seats.items crew.players.items }
     requires laid { AreLaidOut layout crew.seats.items }
@@ -287,25 +280,8 @@ pub(crate) fn play_all<
     ensures archiver { WorksOn A.seen A.gives F.stands_for table.now.table_id archiver result.1 }
     ensures its_end { AtItsEnd result.1 }
 {
-    let refused = AtomicU64::new(NOBODY);
-    let refused_at = &refused;
-    let (mut played, mut archived) = scope(
-        scope_env(),
-        rt,
-        |all| -> (Crew<L, D, F>, Option<Worker<L, D, A, F>>)
-            requires seated { AreSeated table.now.table_id crew.seats.items crew.players.items }
-            requires laid { AreLaidOut layout crew.seats.items }
-            requires archiver { MayWork A.seen A.gives table.now.table_id archiver }
-            requires its { IsLaidOut layout archiver }
-            ensures crew { KeepOn F.stands_for table.entry.now.table_id crew result.0 }
-            ensures archiver { WorksOn A.seen A.gives F.stands_for table.entry.now.table_id archiver result.1 }
-        {
-            start_all(
-                all, rt, table, layout, bells, refused_at, gate, crew, archiver,
-            )
-        },
-    );
-    to_ends::<R, L, D, A, F, G>(rt, table, layout, bells, gate, &mut played);
-    archiver_to_end(rt, table, layout, bells, gate, &mut archived);
-    (played, archived)
+    let mut played = play_at_once(rt, table, layout, bells, gate, crew, &mut archiver);
+    to_ends(rt, table, layout, bells, gate, &mut played);
+    archiver_to_end(rt, table, layout, bells, gate, &mut archiver);
+    (played, archiver)
 }

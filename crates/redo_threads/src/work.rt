@@ -1,10 +1,10 @@
 // One player in its seat, which plays up to its end.
-ghost use Rattle.std.specs.Prelude.{MatchOption, true, ◌≡◌};
+ghost use Rattle.std.specs.Prelude.{MatchOption, None, true, ◌≡◌};
 ghost use Rattle.model_running.specs.Schedule.{HasEnded};
 ghost use Rattle.redo_ownrule.specs.Players.{MayRest};
 ghost use Rattle.redo_ownrule.specs.Playing.{IsPlayerSeat, PlayerAsks};
 ghost use Rattle.redo_threads.specs.Archiving.{GoesOnWith, MayArchive};
-ghost use Rattle.redo_threads.specs.Working.{AtEnd, IsOver};
+ghost use Rattle.redo_threads.specs.Working.{AtEnd, GoesOn, IsOver};
 
 use crate::archiving::play_with;
 use crate::bells::{Bells, call_of};
@@ -206,4 +206,53 @@ pub(crate) fn work<R: Wait, L: Sectors, D: Sectors, A: Sectors, F: Receiver, G: 
         op = now;
     }
     unreachable!()
+}
+
+/// Lets go of an archive that isn't there.
+fn let_go<A: Sectors>(none: Option<ArchPart<A>>)
+    requires { none ≡ None }
+{
+    match none {
+        None => (),
+        Some(_part) => unreachable!(),
+    }
+}
+
+/// `stint` of a player that has no archive.
+pub(crate) fn stint_alone<L: Sectors, D: Sectors, F: Receiver, G: Gate>(
+    table: &Ring<L, D>,
+    layout: Layout,
+    bells: &Bells,
+    gate: &G,
+    seat: &mut Seat<L, D>,
+    player: &mut Player<F>,
+) -> Option<bool>
+    requires layout { seat.old.me.0.layout ≡ layout }
+    requires seat { IsPlayerSeat table.now.table_id seat.old player.old }
+    ensures { GoesOn F.stands_for table.now.table_id seat.old player.old seat.new player.new }
+{
+    let mut none: Option<ArchPart<L>> = None;
+    let went_on = stint(table, layout, bells, gate, seat, player, &mut none);
+    let_go(none);
+    went_on
+}
+
+/// `work` of a player that has no archive.
+pub(crate) fn work_alone<R: Wait, L: Sectors, D: Sectors, F: Receiver, G: Gate>(
+    rt: &R,
+    table: &Ring<L, D>,
+    layout: Layout,
+    bells: &Bells,
+    gate: &G,
+    seat: &mut Seat<L, D>,
+    player: &mut Player<F>,
+)
+    requires layout { seat.old.me.0.layout ≡ layout }
+    requires seat { IsPlayerSeat table.now.table_id seat.old player.old }
+    ensures goes_on { GoesOn F.stands_for table.now.table_id seat.old player.old seat.new player.new }
+    ensures at_end { AtEnd player.new }
+{
+    let mut none: Option<ArchPart<L>> = None;
+    work(rt, table, layout, bells, gate, seat, player, &mut none);
+    let_go(none);
 }

@@ -3,6 +3,10 @@ use Rattle.redo_threads.proofs.Keeping.{keep_refl, keep_seated, keep_trans}
 use Rattle.redo_threads.proofs.Laid.{keep_laid, work_laid}
 use Rattle.redo_threads.proofs.crew.play_here.Goals as goal
 
+pub returns-then-is_empty-clause-crew : goal.returns-then-is_empty-clause-crew
+returns-then-is_empty-clause-crew g c =
+    keep_refl g.F.Receiver.stands_for c.args.table.now.table_id c.args.crew.now c.requires.seated
+
 pub loop-init : goal.loop-init
 loop-init g c = record {
   crew = keep_refl g.F.Receiver.stands_for c.args.table.now.table_id c.args.crew.now c.requires.seated;

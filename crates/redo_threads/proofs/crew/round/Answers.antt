@@ -20,8 +20,8 @@ index_mut-requires-in-loop-k g c =
     let m = keep_long g.F.Receiver.stands_for c.args.table.now.table_id was c.loop-k.crew count c.loop-k.invariant in
     grind rules
 
-pub stint-went_on-requires-clause-seat : goal.stint-went_on-requires-clause-seat
-stint-went_on-requires-clause-seat g c κs within =
+pub stint_alone-went_on-requires-clause-seat : goal.stint_alone-went_on-requires-clause-seat
+stint_alone-went_on-requires-clause-seat g c κs within =
     let was = c.args.crew.now in
     let count = as_many g.F.Receiver.stands_for c.args.table.now.table_id was.seats.items was.players.items c.requires.seated in
     let m = keep_long g.F.Receiver.stands_for c.args.table.now.table_id was c.loop-k.crew count c.loop-k.invariant in
@@ -29,16 +29,13 @@ stint-went_on-requires-clause-seat g c κs within =
     c.index_mut.result.now c.index_mut-in-loop-k.result.now c.loop-k.invariant (grind rules)
     c.index_mut.ensures.value c.index_mut-in-loop-k.ensures.value
 
-pub stint-went_on-requires-clause-layout : goal.stint-went_on-requires-clause-layout
-stint-went_on-requires-clause-layout g c κs within =
+pub stint_alone-went_on-requires-clause-layout : goal.stint_alone-went_on-requires-clause-layout
+stint_alone-went_on-requires-clause-layout g c κs within =
     let was = c.args.crew.now in
     let count = as_many g.F.Receiver.stands_for c.args.table.now.table_id was.seats.items was.players.items c.requires.seated in
     let m = keep_long g.F.Receiver.stands_for c.args.table.now.table_id was c.loop-k.crew count c.loop-k.invariant in
     laid_at g.F.Receiver.stands_for c.args.table.now.table_id c.args.layout was c.loop-k.crew c.requires.seated
     c.requires.laid c.loop-k.invariant c.loop-k.k c.index_mut.result.now (grind rules) c.index_mut.ensures.value
-
-pub stint-went_on-requires-clause-archive : goal.stint-went_on-requires-clause-archive
-stint-went_on-requires-clause-archive g c κs within = tt
 
 pub loop-k-preserved : goal.loop-k-preserved
 loop-k-preserved g c =
@@ -46,6 +43,6 @@ loop-k-preserved g c =
     let count = as_many g.F.Receiver.stands_for c.args.table.now.table_id was.seats.items was.players.items c.requires.seated in
     let m = keep_long g.F.Receiver.stands_for c.args.table.now.table_id was c.loop-k.crew count c.loop-k.invariant in
     keep_set g.F.Receiver.stands_for c.args.table.now.table_id was c.loop-k.crew _ c.loop-k.k
-    c.index_mut.result.now c.stint-went_on.new.seat c.index_mut-in-loop-k.result.now c.stint-went_on.new.player
+    c.index_mut.result.now c.stint_alone-went_on.new.seat c.index_mut-in-loop-k.result.now c.stint_alone-went_on.new.player
     c.loop-k.invariant (grind rules) c.index_mut.ensures.value c.index_mut-in-loop-k.ensures.value
-    c.stint-went_on.ensures.player refl refl refl refl
+    c.stint_alone-went_on.ensures refl refl refl refl

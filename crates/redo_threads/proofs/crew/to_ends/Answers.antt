@@ -25,8 +25,8 @@ index_mut-requires-in-loop-number g c =
     let count = as_many g.F.Receiver.stands_for c.args.table.now.table_id was.seats.items was.players.items c.requires.seated in
     let m = keep_long g.F.Receiver.stands_for c.args.table.now.table_id was c.loop-number.crew count on in grind rules
 
-pub work-requires-clause-seat : goal.work-requires-clause-seat
-work-requires-clause-seat g c κs within =
+pub work_alone-requires-clause-seat : goal.work_alone-requires-clause-seat
+work_alone-requires-clause-seat g c κs within =
     let was = c.args.crew.now in
     let on = c.loop-number.invariant.goes_on in
     let count = as_many g.F.Receiver.stands_for c.args.table.now.table_id was.seats.items was.players.items c.requires.seated in
@@ -35,17 +35,14 @@ work-requires-clause-seat g c κs within =
     c.index_mut.result.now c.index_mut-in-loop-number.result.now on (grind rules)
     c.index_mut.ensures.value c.index_mut-in-loop-number.ensures.value
 
-pub work-requires-clause-layout : goal.work-requires-clause-layout
-work-requires-clause-layout g c κs within =
+pub work_alone-requires-clause-layout : goal.work_alone-requires-clause-layout
+work_alone-requires-clause-layout g c κs within =
     let was = c.args.crew.now in
     let on = c.loop-number.invariant.goes_on in
     let count = as_many g.F.Receiver.stands_for c.args.table.now.table_id was.seats.items was.players.items c.requires.seated in
     let m = keep_long g.F.Receiver.stands_for c.args.table.now.table_id was c.loop-number.crew count on in
     laid_at g.F.Receiver.stands_for c.args.table.now.table_id c.args.layout was c.loop-number.crew c.requires.seated
     c.requires.laid on c.loop-number.number c.index_mut.result.now (grind rules) c.index_mut.ensures.value
-
-pub work-requires-clause-archive : goal.work-requires-clause-archive
-work-requires-clause-archive g c κs within = tt
 
 pub loop-number-preserved : goal.loop-number-preserved
 loop-number-preserved g c =
@@ -55,10 +52,10 @@ loop-number-preserved g c =
     let m = keep_long g.F.Receiver.stands_for c.args.table.now.table_id was c.loop-number.crew count on in
     record {
       goes_on = keep_set g.F.Receiver.stands_for c.args.table.now.table_id was c.loop-number.crew _ c.loop-number.number
-          c.index_mut.result.now c.work.new.seat c.index_mut-in-loop-number.result.now c.work.new.player on (grind rules)
-          c.index_mut.ensures.value c.index_mut-in-loop-number.ensures.value c.work.ensures.goes_on.player refl refl refl refl;
-      ended = one_more c.loop-number.crew.players.items c.loop-number.number c.work.new.player
-          c.loop-number.invariant.ended c.work.ensures.at_end;
+          c.index_mut.result.now c.work_alone.new.seat c.index_mut-in-loop-number.result.now c.work_alone.new.player on (grind rules)
+          c.index_mut.ensures.value c.index_mut-in-loop-number.ensures.value c.work_alone.ensures.goes_on refl refl refl refl;
+      ended = one_more c.loop-number.crew.players.items c.loop-number.number c.work_alone.new.player
+          c.loop-number.invariant.ended c.work_alone.ensures.at_end;
     }
 
 pub returns-clause-at_end : goal.returns-clause-at_end
