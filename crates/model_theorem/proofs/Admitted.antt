@@ -1,5 +1,5 @@
 -- What the parts of the promise admit together.
-use Rattle.std.proofs.Common.{◌≡◌, ℕ, zero, suc, ◌+◌, ◌==◌, Bool, true, false, cond, length, slice_get, ◌≤◌, ◌<◌, List, [], ◌∷◌, Some, None, Ok, sym, ap, ◌∙◌, refl, subst, arith, inl, inr, ⊎_elim, ◌≢◌}
+use Rattle.std.proofs.Common.{◌≡◌, ℕ, zero, suc, ◌+◌, ◌==◌, Bool, true, false, cond, length, slice_get, ◌≤◌, ◌<◌, List, [], ◌∷◌, Some, None, Ok, sym, ap, ◌∙◌, refl, subst, arith, inl, inr, ⊎_elim, ◌≢◌, ◌⊎◌}
 use Rattle.std.specs.Prelude.{take}
 use Rattle.model_base.specs.declared.shape.Shape.{Shape}
 use Rattle.model_store.specs.{folded}
@@ -11,9 +11,9 @@ use Rattle.model_device.specs.declared.write.Write.{Write}
 use Rattle.model_report.specs.{count_up_to, entries_of_user, HasLeft, IsLeft, IsLegal, IsLegalEntry, lines_of_user, wholes_of}
 use Rattle.model_report.specs.declared.entry.Entry.{Entry}
 use Rattle.model_report.specs.declared.entry.State.TheVariants.{Lost, Flushed}
-use Rattle.model_log.specs.{group_length, head_among, head_of, layout_of, lsn_of, newer, newest_checkpoint, read_checkpoint, sn_of, start_after, run_format, header_block}
+use Rattle.model_log.specs.{group_length, head_among, head_of, layout_of, lsn_of, newer, newest_checkpoint, read_checkpoint, sn_of, start_after, run_format, run_layout, header_block}
 use Rattle.model_log.specs.declared.head.Format.{Format}
-use Rattle.model_log.specs.declared.head.Format.TheVariants.{One}
+use Rattle.model_log.specs.declared.head.Format.TheVariants.{One, Two, Three}
 use Rattle.model_log.specs.declared.layout.Layout.{Layout}
 use Rattle.model_script.specs.declared.script.ScriptLine.{ScriptLine}
 use Rattle.model_base.specs.Spelling as spelling
@@ -22,7 +22,7 @@ use Rattle.model_log.specs.Record as text
 use Rattle.model_script.specs.{group_of, LineFits, script_end, script_of}
 use Rattle.model_script.specs.Grammar as grammar
 use Rattle.model_script.proofs.Unfit.{fitting-none}
-use Rattle.model_base.specs.{default_shape}
+use Rattle.model_base.specs.{default_shape, run_shape}
 use Rattle.model_store.specs.Reading.{Reading}
 use Rattle.model_store.proofs.Heads.{head-sizes}
 use Rattle.model_base.specs.declared.limits.TheConstants.{LSN_LIMIT, START_LSN}
@@ -32,7 +32,8 @@ use Rattle.model_theorem.specs.Opening.{HasCheckpoint, IsOpeningDone, IsOpeningS
 use Rattle.model_theorem.proofs.Refused.{base-image}
 use Rattle.model_theorem.specs.Examples.{AreOfBlocks, IsAdmitted, MovedCheckpoint, new_store, ReadsAsOpened, lost_run, line_of_value, two_lines, text_of_two, text_of_one, empty_crash, lost_crash, stopped_crash}
 use Rattle.model_log.specs.declared.layout.TheConstants.{HEADER_BLOCKS, HEADER_BYTES}
-use Rattle.model_log.proofs.Formats.{format-of_run, other-layout}
+use Rattle.model_log.proofs.Formats.{format-of_run}
+use Rattle.model_theorem.proofs.Sizes.{run-alike, run-slots}
 
 -- WHAT STANDS IN THE HEADER while only log blocks are written
 unwritten : (writes : List Write) (k : ℕ) → k < HEADER_BLOCKS → AreOfBlocks writes → IsCovered writes k → ⊥
@@ -80,7 +81,7 @@ opening-done found log data_bytes writes reads opened reading as_opened held are
     let here : HasCheckpoint (run_format opened.shape) opened.shape reading.number reading.ckpt log =
     run-checkpoint reading.format opened.shape reading.number reading.ckpt log held.format (found-checkpoint log data_bytes opened reading as_opened) in
     record {
-      format = held.older.format;
+      was = held.older.was;
       number = held.older.found;
       ckpt = held.older.ckpt;
       found = held.older.newest;
@@ -95,19 +96,28 @@ opening-done found log data_bytes writes reads opened reading as_opened held are
       };
     }
 
+-- a checkpoint that was found is still the newest, or of an earlier format
+still-found : (format : Format) (shape : Shape) (number ckpt : ℕ) (log : List ℕ)
+    → newest_checkpoint (layout_of format shape) log ≡ Some (number, ckpt)
+    → (format ≢ Three) ⊎ (newest_checkpoint (run_layout shape) log ≡ Some (number, ckpt))
+still-found One shape number ckpt log is = inl (λ three. absurd (cc))
+still-found Two shape number ckpt log is = inl (λ three. absurd (cc))
+still-found Three shape number ckpt log is = inr is
+
 -- and where opening was stopped it is the one that was found
-opening-stopped : (log data_bytes : List ℕ) (opened : Opened) (reading : Reading) (disk : Disk) → ReadsAsOpened log data_bytes opened reading → disk.base ≡ log
-    → IsOpeningStopped opened.shape (settled log) disk
-opening-stopped log data_bytes opened reading disk as_opened base =
+opening-stopped : (log data_bytes : List ℕ) (opened : Opened) (reading : Reading) (disk : Disk)
+    → ReadsAsOpened log data_bytes opened reading → run_shape opened.shape ≡ opened.shape → disk.base ≡ log → IsOpeningStopped opened.shape (settled log) disk
+opening-stopped log data_bytes opened reading disk as_opened runs base =
     let here : HasCheckpoint reading.format opened.shape reading.number reading.ckpt log = found-checkpoint log data_bytes opened reading as_opened in
     record {
-      format = reading.format;
+      was = opened.shape;
       number = reading.number;
       ckpt = reading.ckpt;
-      found = here;
-      unmoved = subst (IsUnopened reading.format opened.shape reading.number reading.ckpt) (sym base) (record {
+      found = record { runs_by = runs; format = reading.format; newest = here };
+      unmoved = subst (IsUnopened opened.shape reading.number reading.ckpt) (sym base) (record {
+        format = reading.format;
         head = here.head;
-        newest = λ other. subst (λ (layout : Layout). newest_checkpoint layout log ≡ Some (reading.number, reading.ckpt)) (other-layout reading.format opened.shape other) here.newest;
+        still = still-found reading.format opened.shape reading.number reading.ckpt log here.newest;
       });
     }
 
@@ -222,7 +232,8 @@ admits-empty found log data_bytes opened reading reads held = record {
   read_from_devices = reads.is_read;
   old_copies = reads.old_copies;
   first_groups_whole = record {
-    shape = reads.shape;
+    shape = ap run_shape reads.shape
+        ∙ run-alike opened.shape (run-slots held.older.was opened.shape held.older.newest.runs_by);
     first_groups_whole = reads.pages;
     reaching_flushed = λ i entry is flushed. cc;
     marks = record { flushed = omega (arith, reads.end); checkpoint = omega arith };
@@ -301,7 +312,7 @@ admits-lost found log writes reads data_bytes reading as_opened held are ckpt = 
   read_from_devices = as_opened.is_read;
   old_copies = as_opened.old_copies;
   first_groups_whole = record {
-    shape = as_opened.shape;
+    shape = ap run_shape as_opened.shape;
     first_groups_whole = as_opened.pages ∙ sym (ap (λ n. folded new_store.pages (take n (wholes_of two_lines 1 lost_run.entries))) (none-first reading.end as_opened.end));
     reaching_flushed = λ i entry at flushed.
         let same = entry-only first-entry entry i at in
@@ -318,12 +329,12 @@ admits-stopped log data_bytes reading as_opened = record {
   fits = tt;
   left_is = left-one (line_of_value 7 ∷ []) [] refl others-of-one;
   in_lsn_order = tt;
-  opened_first = opening-stopped log data_bytes new_store reading (settled log) as_opened refl;
+  opened_first = opening-stopped log data_bytes new_store reading (settled log) as_opened refl refl;
   kept = (kept-settled log, kept-settled data_bytes);
   read_from_devices = as_opened.is_read;
   old_copies = as_opened.old_copies;
   first_groups_whole = record {
-    shape = as_opened.shape;
+    shape = ap run_shape as_opened.shape;
     first_groups_whole = as_opened.pages;
     reaching_flushed = λ i entry at flushed. absurd (cc);
     marks = tt;

@@ -1,5 +1,5 @@
 -- What two devices that hold a run leave to be read.
-use Rattle.std.proofs.Common.{◌≡◌, ℕ, ◌^◌, ◌<◌, ◌≤◌, List, ◌++◌, length, Some, slice_get, arith, refl, sym, ap, ◌∙◌, subst, append_assoc}
+use Rattle.std.proofs.Common.{◌≡◌, ℕ, ◌^◌, ◌<◌, ◌≤◌, List, ◌++◌, length, Some, slice_get, arith, sym, ap, ◌∙◌, subst, append_assoc}
 use Rattle.std.specs.List.{AllByRecursion}
 use Rattle.std.proofs.lemmas.Option.{slice_get_within}
 use Rattle.std.proofs.lemmas.Bool.Decides.{nat_tests}
@@ -32,6 +32,7 @@ use Rattle.model_theorem.specs.Closed.{Held, IsHeld, AreMarksBehind, groups_of_r
 use Rattle.model_store.proofs.Folding.{length-folded, get-folded}
 use Rattle.model_report.proofs.Groups.{have-lines, run-from, first-front, reached}
 use Rattle.model_theorem.proofs.Fitting.{good-from}
+use Rattle.model_theorem.proofs.Sizes.{run-alike}
 
 -- what the log part's law says
 abbrev pub LogLaw : Type 0
@@ -191,7 +192,7 @@ reads-prefix law held log store is log_fair fair =
           let from = from-page opened.pages front p page at in
           subst (IsNoNewerCopy opened.shape store slot lsn) (sym from.2) (found.old_copies p slot lsn from.0 within from.1 copy);
       prefix = record {
-        shape = refl;
+        shape = run-alike opened.shape is.given.slots;
         first_groups_whole = ap (folded opened.pages) (sym (first-front held.script opened.shape.space found.end run.entries front found.after parts found.read_end found.other_ends));
         reaching_flushed = λ i entry at state.
             let low : entry.end ≤ run.marks.flushed = flushed-end held.script opened.shape.space run.start i run.marks run.entries entry is.is_run.legal at state in

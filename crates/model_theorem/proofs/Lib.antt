@@ -7,5 +7,6 @@ pub mod Later
 pub mod Numbered
 pub mod Pages
 pub mod Refused
+pub mod Sizes
 pub mod Start
 pub mod Stored

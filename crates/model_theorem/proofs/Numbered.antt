@@ -115,7 +115,7 @@ held-number held log is fair =
 pub held-opened : (held : Held) (armed_from : Disk) → IsHeld held → HeldOlder held.opened.shape held.number armed_from
     → IsOpenedBefore held.opened.shape armed_from held.log_disk (Some held.run)
 held-opened held armed_from is older = record {
-  format = older.format;
+  was = older.was;
   number = older.found;
   ckpt = older.ckpt;
   found = older.newest;

@@ -1,6 +1,8 @@
 -- A store that opening made ready.
 use Rattle.std.proofs.Common.{◌≡◌, ◌≢◌, ℕ, ◌+◌, ◌<◌, ◌≤◌, inl, inr, List, [], Some, slice_get, arith, refl, sym, subst, ⊎_elim}
 use Rattle.std.proofs.lemmas.Bool.{cases_lt}
+use Rattle.model_base.proofs.ShapeLimits.{run_within}
+use Rattle.model_base.specs.{run_shape}
 use Rattle.model_base.specs.declared.shape.Shape.{Shape}
 use Rattle.model_device.specs.Disk.{Disk}
 use Rattle.model_log.specs.{IsLayout, run_layout}
@@ -8,7 +10,7 @@ use Rattle.model_log.specs.declared.head.Format.TheVariants.{Two}
 use Rattle.model_log.proofs.Layouts.{has-blocks, is_layout_of}
 use Rattle.model_parts.specs.{first_marks, first_tails, IsLive, IsRewritten, LogHolds, numbers_taken, start_block, start_of}
 use Rattle.model_page.specs.declared.content.Content.{Content}
-use Rattle.model_store.specs.{IsNoNewerCopy}
+use Rattle.model_store.specs.{IsFair, IsNoNewerCopy}
 use Rattle.model_script.specs.declared.script.ScriptLine.{ScriptLine}
 use Rattle.model_report.specs.{IsLeft}
 use Rattle.model_store.specs.Reading.{Reading}
@@ -28,7 +30,8 @@ pub start-given : (reading : Reading) (script : List ScriptLine) (log_disk data_
 start-given reading script log_disk data_disk is =
     let log : IsLogRead is.log_bytes reading = log-read is.log_bytes is.data_bytes reading is.orderly.reads in
     record {
-      shape = log.limits;
+      shape = run_within reading.shape log.limits;
+      slots = refl;
       count = is.orderly.reads.count;
       not_ahead = read-not_ahead is.log_bytes is.data_bytes reading is.orderly.reads;
       fits = is.fits;
@@ -36,21 +39,39 @@ start-given reading script log_disk data_disk is =
 
 -- the log device
 pub start-live : (reading : Reading) (script : List ScriptLine) (log_disk data_disk : Disk) → IsStart reading script log_disk data_disk
-    → IsLive reading.shape (start_of reading) [] (first_marks (start_of reading) (reading.number + numbers_taken reading.format))
-    (first_tails (start_of reading)) log_disk
+    → IsLive (run_shape reading.shape) (start_of reading) []
+    (first_marks (start_of reading) (reading.number + numbers_taken reading.format)) (first_tails (start_of reading)) log_disk
 start-live reading script log_disk data_disk is =
     let log : IsLogRead is.log_bytes reading = log-read is.log_bytes is.data_bytes reading is.orderly.reads in
-    let layout : IsLayout (run_layout reading.shape) = is_layout_of Two reading.shape log.limits.many_blocks log.limits.few_blocks in
-    fresh-live reading.shape (start_of reading) (reading.number + numbers_taken reading.format) log_disk (has-blocks (run_layout reading.shape) layout) log.log.place (omega (arith, log.log.started, log.log.low)) is.ready.log
+    let shape : Shape = run_shape reading.shape in
+    let layout : IsLayout (run_layout shape) = is_layout_of Two shape log.limits.many_blocks log.limits.few_blocks in
+    fresh-live shape (start_of reading) (reading.number + numbers_taken reading.format) log_disk (has-blocks (run_layout shape) layout)
+    log.log.place (omega (arith, log.log.started, log.log.low)) is.ready.log
+
+-- the reading, with the sizes of a run
+abbrev as-run : Reading → Reading
+as-run reading = record {
+  format = reading.format;
+  shape = run_shape reading.shape;
+  number = reading.number;
+  ckpt = reading.ckpt;
+  views = reading.views;
+  wholes = reading.wholes;
+  end = reading.end;
+  pages = reading.pages;
+}
 
 -- the data device
 pub start-unwritten : (reading : Reading) (script : List ScriptLine) (log_disk data_disk : Disk) → IsStart reading script log_disk data_disk
-    → HasOpenedPages reading.shape reading.pages data_disk
-start-unwritten reading script log_disk data_disk is = record {
-  long = is.ready.pages.keeps.long;
-  keeps = λ image fair. (let here : IsRewritten reading image = stored-image reading data_disk image is.orderly.reads.count is.ready.pages fair in here.each);
-  copies = λ image fair. (let here : IsRewritten reading image = stored-image reading data_disk image is.orderly.reads.count is.ready.pages fair in here.old_copies);
-}
+    → HasOpenedPages (run_shape reading.shape) reading.pages data_disk
+start-unwritten reading script log_disk data_disk is =
+    let rewritten : (image : List ℕ) → IsFair (run_shape reading.shape) data_disk image → IsRewritten (as-run reading) image =
+    λ image fair. stored-image (as-run reading) data_disk image is.orderly.reads.count is.ready.pages fair in
+    record {
+      long = is.ready.pages.keeps.long;
+      keeps = λ image fair. (rewritten image fair).each;
+      copies = λ image fair. (rewritten image fair).old_copies;
+    }
 
 -- pages that nobody wrote, where the run has no group
 unwritten-holds : (shape : Shape) (opened : List Content) (stable ckpt : ℕ) (disk : Disk) → ((p : ℕ) (page : Content) → slice_get opened p ≡ Some page → page.lsn ≤ stable) → HasOpenedPages shape opened disk
@@ -79,10 +100,13 @@ pub opened-closed : (failures : ℕ) (reading : Reading) (script : List ScriptLi
     → IsClosed failures (unplayed reading script left log_disk data_disk)
 opened-closed failures reading script left log_disk data_disk is left_is failed =
     let s : ℕ = start_of reading in
+    let shape : Shape = run_shape reading.shape in
     let next : HasNext reading = has-next is.log_bytes is.data_bytes reading is.orderly in
     let number : ℕ = reading.number + numbers_taken reading.format in
-    let live : IsLive reading.shape s [] (first_marks s number) (first_tails s) log_disk = start-live reading script log_disk data_disk is in
-    let held : LogHolds reading.shape s [] (first_marks s number) log_disk = record { tails = first_tails s; holds = live.holds } in
+    let live : IsLive shape s [] (first_marks s number) (first_tails s) log_disk =
+    start-live reading script log_disk data_disk is in
+    let held : LogHolds shape s [] (first_marks s number) log_disk =
+    record { tails = first_tails s; holds = live.holds } in
     let given : AreGiven script (opened_as reading) = start-given reading script log_disk data_disk is in
     let later : reading.end ≤ s = end-start reading.end in
     record {
@@ -100,7 +124,7 @@ opened-closed failures reading script left log_disk data_disk is left_is failed 
         marks = record { flushed = omega arith; ckpt = omega arith; small = omega (arith, next.small, next.aligned) };
         number_kept = omega arith;
         log_holds = held;
-        data_holds = unwritten-holds reading.shape reading.pages s (start_block reading) data_disk
+        data_holds = unwritten-holds shape reading.pages s (start_block reading) data_disk
             (λ p page at. (let old : page.lsn ≤ reading.end = given.not_ahead p page at in omega arith)) (start-unwritten reading script log_disk data_disk is);
       };
       left_is = left_is;

@@ -49,11 +49,12 @@ pub record IsStillUnopened (shape : Shape) (armed_from crashed_from : Disk) : Ty
   pub unmoved : (format : Format) → newest_checkpoint (layout_of format shape) crashed_from.base
       ≡ newest_checkpoint (layout_of format shape) armed_from.base
 
--- at the log device's last good sync its header was another than was found, or the newest checkpoint was, in
--- the format of runs
+-- at the log device's last good sync its header was that of a run, and another was found; or that was found, and the
+-- newest checkpoint was another
 abbrev pub WasOpened : Shape → (armed_from crashed_from : Disk) → Type 0
 WasOpened shape armed_from crashed_from =
-    (head_of crashed_from.base ≢ head_of armed_from.base)
+    ((head_of crashed_from.base ≡ Good (run_format shape) shape)
+    × (head_of crashed_from.base ≢ head_of armed_from.base))
     ⊎ ((head_of armed_from.base ≡ Good (run_format shape) shape)
     × (newest_checkpoint (run_layout shape) crashed_from.base ≢ newest_checkpoint (run_layout shape) armed_from.base))
 

@@ -1,6 +1,7 @@
 // What holds of each run that its devices hold.
 ghost use Rattle.std.specs.Prelude.{◌≡◌, ◌≢◌, ◌≤◌, ◌<◌, ◌+◌, ◌++◌, [], ℕ, List, Option, Some};
 ghost use Rattle.std.specs.List.{AllByRecursion};
+ghost use Rattle.model_base.specs.{run_shape};
 ghost use Rattle.model_base.specs.declared.shape.Shape.{Shape};
 ghost use Rattle.model_log.specs.{groups_of, IsDataLsn, IsRunOf, last_span_end, spans_of};
 ghost use Rattle.model_log.specs.declared.group.Whole.{Whole};
@@ -61,10 +62,10 @@ pub fn opened_store_is_closed()
         → IsStart reading script log_disk data_disk → AreGiven script (opened_as reading) }
     ensures live { (reading : Reading) (script : List ScriptLine) (log_disk data_disk : Disk)
         → IsStart reading script log_disk data_disk
-        → IsLive reading.shape (start_of reading) [] (first_marks (start_of reading) (reading.number + numbers_taken reading.format))
-        (first_tails (start_of reading)) log_disk }
+        → IsLive (run_shape reading.shape) (start_of reading) []
+        (first_marks (start_of reading) (reading.number + numbers_taken reading.format)) (first_tails (start_of reading)) log_disk }
     ensures unwritten { (reading : Reading) (script : List ScriptLine) (log_disk data_disk : Disk)
-        → IsStart reading script log_disk data_disk → HasOpenedPages reading.shape reading.pages data_disk }
+        → IsStart reading script log_disk data_disk → HasOpenedPages (run_shape reading.shape) reading.pages data_disk }
     ensures closed { (failures : ℕ) (reading : Reading) (script : List ScriptLine) (left : List (ℕ × ℕ)) (log_disk data_disk : Disk)
         → IsStart reading script log_disk data_disk → IsLeft script [] left → (left ≢ [] → 0 < failures)
         → IsClosed failures (unplayed reading script left log_disk data_disk) }
