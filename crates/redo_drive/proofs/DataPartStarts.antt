@@ -1,6 +1,7 @@
 -- What holds of the data part when a run starts.
 use Rattle.std.proofs.Common.{None, Option, [], ap, arith, false, is_some, subst, sym, ℕ, ◌≡◌}
 use Rattle.std.specs.Prelude.{IfSome}
+use Rattle.model_base.specs.{run_shape}
 use Rattle.model_base.specs.declared.shape.Shape.{Shape}
 use Rattle.model_core.specs.DataSide.{DataSide}
 use Rattle.model_core.specs.{KeptPage}
@@ -30,10 +31,10 @@ part_starts seen c shape d shape_is live = record {
 }
 
 -- on the device of a store that was opened, the run begins with the pages as they were read
-pub opened_begins : {D : Type 0} (seen : D → Seen) (opened : ℕ → KeptPage) (reading : Reading) (d : Part D) → d.shape ≡ reading.shape → d.failed ≡ None → ((p : ℕ) → contents_of opened p ≡ read_as reading p)
-    → IfSome (seen d.dev).tells (Stored reading.shape (IsUpTo (read_as reading)) (read_as reading) [] false) → HasBegun seen opened d
+pub opened_begins : {D : Type 0} (seen : D → Seen) (opened : ℕ → KeptPage) (reading : Reading) (d : Part D) → d.shape ≡ run_shape reading.shape → d.failed ≡ None → ((p : ℕ) → contents_of opened p ≡ read_as reading p)
+    → IfSome (seen d.dev).tells (Stored (run_shape reading.shape) (IsUpTo (read_as reading)) (read_as reading) [] false) → HasBegun seen opened d
 opened_begins seen opened reading d shape_is live same stored =
     let pages : ◌≡◌ {A = ℕ → Content} (contents_of opened) (read_as reading) = λ i p. same p i in
     subst (λ (f : ℕ → Content). PartStores seen f f [] d) (sym pages)
     (subst (λ (s : Shape). IfSome (seen d.dev).tells (Stored s (IsUpTo (read_as reading)) (read_as reading) [] (is_some d.failed))) (sym shape_is)
-    (subst (λ (f : Option DevError). IfSome (seen d.dev).tells (Stored reading.shape (IsUpTo (read_as reading)) (read_as reading) [] (is_some f))) (sym live) stored))
+    (subst (λ (f : Option DevError). IfSome (seen d.dev).tells (Stored (run_shape reading.shape) (IsUpTo (read_as reading)) (read_as reading) [] (is_some f))) (sym live) stored))

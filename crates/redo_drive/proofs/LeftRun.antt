@@ -8,6 +8,7 @@ use Rattle.std.specs.List.{AllZip}
 use Rattle.std.specs.Prelude.{IfSome}
 use lib.ListN.{get_elem?}
 use mathlib.Core.Option.{some}
+use Rattle.model_base.specs.{run_shape}
 use Rattle.model_base.specs.declared.shape.Shape.{Shape}
 use Rattle.model_core.specs.DataSide.{DataSide}
 use Rattle.model_core.specs.LogSide.{LogSide}
@@ -196,14 +197,14 @@ module _ {L D R : Type 0} {archive : Bool} (log_seen : L → Seen) (log_gives : 
       each = λ p page at. its.each p page (subst (λ (z : List Content). slice_get z p ≡ Some page) (sym as_read.pages) at);
     }
 
-    log_shape : ◌≡◌ {A = Shape} by.last.log.shape reading.shape
+    log_shape : ◌≡◌ {A = Shape} by.last.log.shape (run_shape reading.shape)
     log_shape = by.log_shape ∙ may.runnable.log_shape ∙ as_read.shape
 
     -- what the log device holds of the run, and the data device
-    log_device : HaveBegun log_seen data_seen run → (disk : Disk) → (log_seen driven.closed.log.dev).tells ≡ Some disk → LogTells logs run.setup reading.shape (reading.number + numbers_taken reading.format) by.last.log disk
+    log_device : HaveBegun log_seen data_seen run → (disk : Disk) → (log_seen driven.closed.log.dev).tells ≡ Some disk → LogTells logs run.setup (run_shape reading.shape) (reading.number + numbers_taken reading.format) by.last.log disk
     log_device begun disk told =
-        subst (λ (n : ℕ). LogTells logs run.setup reading.shape n by.last.log disk) (ap (λ (z : log.Part L). z.marks.number) by.is_run.first_log ∙ as_read.number)
-        (log_tells log_seen (log_seen run.first_log.dev).faults run.first_log.marks.number (log_part.HasBegun log_seen (lsn run.setup.base) run.first_log) run.setup reading.shape by.last.log disk begun.log log_shape
+        subst (λ (n : ℕ). LogTells logs run.setup (run_shape reading.shape) n by.last.log disk) (ap (λ (z : log.Part L). z.marks.number) by.is_run.first_log ∙ as_read.number)
+        (log_tells log_seen (log_seen run.first_log.dev).faults run.first_log.marks.number (log_part.HasBegun log_seen (lsn run.setup.base) run.first_log) run.setup (run_shape reading.shape) by.last.log disk begun.log log_shape
         (ap (λ (z : log.Part L). (log_seen z.dev).tells) (sym by.log) ∙ told))
 
     data_device : HaveBegun log_seen data_seen run → (disk : Disk) → (data_seen driven.closed.store.dev).tells ≡ Some disk → DataTells datas (opened_as reading) by.last.store disk
@@ -213,10 +214,10 @@ module _ {L D R : Type 0} {archive : Bool} (log_seen : L → Seen) (log_gives : 
 
     -- and what a sync would leave of them, where no call failed
     log_synced : HaveBegun log_seen data_seen run → driven.closed.log.failed ≡ None → (disk : Disk) → (log_seen driven.closed.log.dev).tells ≡ Some disk
-        → LogTells logs run.setup reading.shape (reading.number + numbers_taken reading.format) by.last.log (synced disk)
+        → LogTells logs run.setup (run_shape reading.shape) (reading.number + numbers_taken reading.format) by.last.log (synced disk)
     log_synced begun live disk told =
-        subst (λ (n : ℕ). LogTells logs run.setup reading.shape n by.last.log (synced disk)) (ap (λ (z : log.Part L). z.marks.number) by.is_run.first_log ∙ as_read.number)
-        (log_tells_synced log_seen (log_seen run.first_log.dev).faults run.first_log.marks.number (log_part.HasBegun log_seen (lsn run.setup.base) run.first_log) run.setup reading.shape by.last.log disk begun.log log_shape
+        subst (λ (n : ℕ). LogTells logs run.setup (run_shape reading.shape) n by.last.log (synced disk)) (ap (λ (z : log.Part L). z.marks.number) by.is_run.first_log ∙ as_read.number)
+        (log_tells_synced log_seen (log_seen run.first_log.dev).faults run.first_log.marks.number (log_part.HasBegun log_seen (lsn run.setup.base) run.first_log) run.setup (run_shape reading.shape) by.last.log disk begun.log log_shape
         (ap (λ (z : log.Part L). (log_seen z.dev).tells) (sym by.log) ∙ told) (ap (λ (z : log.Part L). z.failed) (sym by.log) ∙ live))
 
     data_synced : HaveBegun log_seen data_seen run → driven.closed.store.failed ≡ None → (disk : Disk) → (data_seen driven.closed.store.dev).tells ≡ Some disk → DataTells datas (opened_as reading) by.last.store (synced disk)
@@ -228,7 +229,7 @@ module _ {L D R : Type 0} {archive : Bool} (log_seen : L → Seen) (log_gives : 
 
     -- so both devices hold the run, as the parts tell of them
     held : (log_disk data_disk log_now data_now : Disk) → IsStart reading script log_disk data_disk
-        → LogTells logs run.setup reading.shape (reading.number + numbers_taken reading.format) by.last.log log_now → DataTells datas (opened_as reading) by.last.store data_now
+        → LogTells logs run.setup (run_shape reading.shape) (reading.number + numbers_taken reading.format) by.last.log log_now → DataTells datas (opened_as reading) by.last.store data_now
         → IsHeld (record { script = script; opened = opened_as reading; number = reading.number + numbers_taken reading.format; run = ran; log_disk = log_now; data_disk = data_now })
     unfolding stands_for_run
     held log_disk data_disk log_now data_now start log_tells_now data_tells_now =

@@ -2,6 +2,7 @@
 use Rattle.std.proofs.Common.{Global, Vec}
 use Rattle.std.proofs.Common.{ℕ, ◌≡◌, ◌+◌, ◌<◌, ◌≤◌, true, List, Option, Some, None, refl, sym, ap, subst, ◌∙◌, inl, inr, ⊎_elim, arith, ◌≢◌}
 use Rattle.std.specs.List.{AllByRecursion, AllZip}
+use Rattle.model_base.specs.{run_shape}
 use Rattle.model_base.specs.declared.shape.Shape.{Shape}
 use Rattle.model_device.specs.{synced}
 use Rattle.model_device.specs.Disk.{Disk}
@@ -231,7 +232,7 @@ module _ {L D : Type 0} (log_seen : L → Seen) (log_gives : L → Call → L �
       let closed = run-found Closes (λ reading started. owes.owed_synced log_none data_none reading left.0 done memory started left.1)
       opened log_entry data_entry log_is data_is log_on data_on log_fresh data_fresh opens in
       let read = laws.held_reads _ log_now.reads data_now.reads (closed.1 log_now data_now log_now_is data_now_is).holds
-      (synced-fair log_now) (laws.base_fair closed.0.reading.shape (synced data_now)) in
+      (synced-fair log_now) (laws.base_fair (run_shape closed.0.reading.shape) (synced data_now)) in
       (read.reading, read.is_read)
 
   -- in threads with the marks that are told

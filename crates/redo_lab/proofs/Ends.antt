@@ -1,10 +1,10 @@
 -- A command that runs a script: what it comes to, by what is left of both devices.
 use Rattle.std.proofs.Common.{ℕ, ◌≡◌, ◌≢◌, ◌<◌, true, false, List, [], Option, Some, None, IfSome, refl, sym, ap, subst, ◌⊎◌, inl, inr, ⊎_elim, arith, ◌∙◌, ◌≤◌}
 use Rattle.std.proofs.lemmas.Bool.{false≢true}
-use Rattle.model_base.specs.{HasRisen}
+use Rattle.model_base.specs.{HasRisen, run_shape}
 use Rattle.model_base.specs.declared.shape.Shape.{Shape}
 use Rattle.model_device.specs.Disk.{Disk}
-use Rattle.model_parts.specs.{KeepsOpened}
+use Rattle.model_parts.specs.{IsOpenable}
 use Rattle.model_report.specs.declared.entry.Followed.{Followed}
 use Rattle.model_report.specs.declared.fault.Fault.{Fault}
 use Rattle.model_report.specs.declared.fault.Fault.TheVariants as fault
@@ -16,6 +16,7 @@ use Rattle.model_script.specs.declared.script.ScriptLine.{ScriptLine}
 use Rattle.model_store.specs.{IsFair, Opens}
 use Rattle.model_store.specs.Reading.{Reading}
 use Rattle.model_store.specs.declared.refusal.Refusal.{Refusal}
+use Rattle.model_theorem.proofs.Sizes.{own-fair}
 use Rattle.model_theorem.specs.{IsRun, Opened, Ran}
 use Rattle.redo_drive.specs.declared.drive.RunEnd.{RunEnd}
 use Rattle.redo_drive.specs.declared.drive.RunEnd.TheVariants.{Spent}
@@ -25,7 +26,7 @@ use Rattle.redo_lab.specs.declared.crash_command.Crashing.{Crashing}
 use Rattle.redo_lab.specs.declared.outcome.Outcome.{Outcome}
 use Rattle.redo_lab.specs.declared.outcome.Outcome.TheVariants as outcome
 use Rattle.redo_lab.specs.declared.playing.Stops.{Stops}
-use Rattle.redo_lab.proofs.Found.{one-opened, openable-fresh, same-told, unused-unread}
+use Rattle.redo_lab.proofs.Found.{one-opened, openable-fresh, openable-limits, same-told, unused-unread}
 use Rattle.redo_lab.specs.Asked.{IsScriptRead, drive_of_seed, leaves_devices, runs_script}
 use Rattle.redo_lab.specs.Call.{AreUnfailedFor, BothDevices, Guarded, IsInRun, IsUnfailed, IsUnfailedAside, LabCall, WhereOpened}
 use Rattle.redo_lab.specs.Cause.{AreInRunOrCrashed, AreOfRun, CanPlay, CanRun, IsDeviceFault, IsPastSource, IsPossible, IsRefused, IsRefusedAtEntry, IsUnbegun, IsUnprepared, LeavesFailed, MaySpend}
@@ -128,17 +129,20 @@ leaves-unprepared call laws unprepared opened log data_disk log_is data_is log_o
     let both = kept log data_disk log_is data_is log_on data_on in
     subst (λ (d : Disk). AreAccepted opened log_now d) (same-told _ _ data_disk data_now both.1 data_is data_now_is)
     (subst (λ (d : Disk). AreAccepted opened d data_disk) (same-told _ _ log log_now both.0 log_is log_now_is)
-    (accepts opened orderly.reading log data_disk orderly.shape_is (laws.openable orderly.reading log data_disk
-    (openable-fresh log data_disk call.log.entry.faults call.store.entry.faults opened log_fresh data_fresh orderly)))))
+    (accepts opened orderly.reading log data_disk orderly.shape_is
+    (openable-fresh log data_disk call.log.entry.faults call.store.entry.faults opened log_fresh data_fresh orderly))))
     (λ were. absurd (unused-unread laws log.reads data_disk.reads orderly.reading (were log data_disk log_is data_is log_on data_on).0 orderly.orderly.reads))
     unprepared.1)
     (λ unused. absurd (unused.1 unprepared.0.0))
     stored
   where
-    accepts : (opened : Opened) (reading : Reading) (log data_disk : Disk) → opened.shape ≡ reading.shape → KeepsOpened reading log data_disk
-        → AreAccepted opened log data_disk
-    accepts opened reading log data_disk shape keeps log_bytes data_bytes image fair =
-        let kept = keeps log_bytes data_bytes image (subst (λ (s : Shape). IsFair s data_disk data_bytes) shape fair) in
+    accepts : (opened : Opened) (reading : Reading) (log data_disk : Disk) → opened.shape ≡ run_shape reading.shape
+        → IsOpenable reading log data_disk → AreAccepted opened log data_disk
+    accepts opened reading log data_disk shape openable log_bytes data_bytes image fair =
+        let own : IsFair reading.shape data_disk data_bytes =
+        own-fair reading.shape data_disk data_bytes (openable-limits reading log data_disk openable)
+        (subst (λ (s : Shape). IsFair s data_disk data_bytes) shape fair) in
+        let kept = laws.openable reading log data_disk openable log_bytes data_bytes image own in
         (kept.reading, kept.is_read, kept.old_copies)
 
 -- by a run, or none, of which every image is read as a prefix

@@ -1,7 +1,7 @@
 -- The store that two devices open: as they were handed in, and as the arming of their fuses found them.
 use Rattle.std.proofs.Common.{ℕ, ◌≡◌, ◌≢◌, ◌<◌, ◌+◌, cond, List, Option, Some, None, refl, sym, ap, subst, ◌∙◌, inl, ⊎_elim, arith}
 use Rattle.model_base.proofs.ShapeLimits.{default_within}
-use Rattle.model_base.specs.{default_shape}
+use Rattle.model_base.specs.{default_shape, IsWithinLimits, run_shape}
 use Rattle.model_base.specs.declared.shape.Shape.{Shape}
 use Rattle.model_device.specs.Disk.{Disk}
 use Rattle.model_log.specs.{fits_checksum, head_among, head_of, header_block, layout_of, newest_checkpoint, read_head}
@@ -12,9 +12,11 @@ use Rattle.model_page.specs.declared.content.Content.{Content}
 use Rattle.model_parts.proofs.Unread.{unsealed-head, zeros-unsealed}
 use Rattle.model_parts.specs.{formatted_store, IsAtRest, IsOpenable, IsUnsealed, KeepsOpened, numbers_taken, zero_block}
 use Rattle.model_script.specs.declared.script.ScriptLine.{ScriptLine}
+use Rattle.model_store.proofs.Heads.{head-limits}
 use Rattle.model_store.specs.{IsFair, IsFairLog, IsReading, IsUnused, Opens, OpensOrderly}
 use Rattle.model_store.specs.Reading.{Reading}
 use Rattle.model_store.specs.declared.refusal.Refusal.TheVariants.{NotFormatted}
+use Rattle.model_theorem.proofs.Sizes.{own-fair}
 use Rattle.model_theorem.specs.{HasCheckpoint, HeldOlder, IsOpenedBefore, Opened, opened_as, ReadsPrefix}
 use Rattle.redo_open.specs.{IsNotOpened}
 use Rattle.redo_lab.specs.declared.playing.Stops.{Stops}
@@ -71,7 +73,7 @@ one-opened laws log data_disk a b opens_a opens_b = ⊎_elim
     (λ orderly.
     let is = laws.one_reading log.reads data_disk.reads read_a.1.reading orderly.reading read_a.1.is_read orderly.orderly.reads in
     same-opened a b
-    (read_a.1.shape ∙ ap (λ (r : Reading). r.shape) is ∙ sym orderly.shape_is)
+    (read_a.1.shape ∙ ap (λ (r : Reading). run_shape r.shape) is ∙ sym orderly.shape_is)
     (read_a.1.pages ∙ ap (λ (r : Reading). r.pages) is ∙ sym orderly.pages_are)
     (read_a.1.end ∙ ap (λ (r : Reading). r.end) is ∙ sym orderly.end_is))
     opens_b)
@@ -140,32 +142,39 @@ some-taken Three = omega arith
 
 -- is older than those that opening makes
 pub held-older : (reading : Reading) (log data_disk : Disk) → IsOpenable reading log data_disk
-    → HeldOlder reading.shape (reading.number + numbers_taken reading.format) log
+    → HeldOlder (run_shape reading.shape) (reading.number + numbers_taken reading.format) log
 held-older reading log data_disk openable = record {
-  format = reading.format;
+  was = reading.shape;
   found = reading.number;
   ckpt = reading.ckpt;
-  newest = found-checkpoint reading log data_disk openable;
+  newest = record { runs_by = refl; format = reading.format; newest = found-checkpoint reading log data_disk openable };
   older = omega (arith, some-taken reading.format);
 }
 
 -- OPENING WAS STOPPED where the log device tells that it hasn't come to its end.
 pub stopped-before : (reading : Reading) (log data_disk left : Disk) → IsOpenable reading log data_disk → IsNotOpened reading left
-    → IsOpenedBefore reading.shape log left None
+    → IsOpenedBefore (run_shape reading.shape) log left None
 stopped-before reading log data_disk left openable unmoved = record {
-  format = reading.format;
+  was = reading.shape;
   number = reading.number;
   ckpt = reading.ckpt;
-  found = found-checkpoint reading log data_disk openable;
+  found = record { runs_by = refl; format = reading.format; newest = found-checkpoint reading log data_disk openable };
   unmoved = unmoved;
 }
 
+-- a store that can be opened has sizes within the limits
+pub openable-limits : (reading : Reading) (log data_disk : Disk) → IsOpenable reading log data_disk → IsWithinLimits reading.shape
+openable-limits reading log data_disk openable =
+    head-limits (header_block 0 log.reads) (header_block 2 log.reads) reading.format reading.shape
+    openable.orderly.reads.scan.devices.head.head
+
 -- the opened pages are those of no group
-pub prefix-opened : (script : List ScriptLine) (reading : Reading) (log_disk data_disk : Disk) → KeepsOpened reading log_disk data_disk
-    → (log_bytes data_bytes : List ℕ) → IsFairLog log_disk log_bytes → IsFair reading.shape data_disk data_bytes
+pub prefix-opened : (script : List ScriptLine) (reading : Reading) (log_disk data_disk : Disk) → IsWithinLimits reading.shape
+    → KeepsOpened reading log_disk data_disk
+    → (log_bytes data_bytes : List ℕ) → IsFairLog log_disk log_bytes → IsFair (run_shape reading.shape) data_disk data_bytes
     → ReadsPrefix script (opened_as reading) None log_bytes data_bytes
-prefix-opened script reading log_disk data_disk keeps log_bytes data_bytes image fair =
-    let read = keeps log_bytes data_bytes image fair in
+prefix-opened script reading log_disk data_disk limits keeps log_bytes data_bytes image fair =
+    let read = keeps log_bytes data_bytes image (own-fair reading.shape data_disk data_bytes limits fair) in
     record {
       reading = read.reading;
       is_read = read.is_read;

@@ -10,7 +10,7 @@ use Rattle.model_script.specs.declared.asked.Command.{Command}
 use Rattle.model_script.specs.declared.asked.Drive.{Drive}
 use Rattle.model_script.specs.declared.misfit.Misfit.{Misfit}
 use Rattle.model_script.specs.declared.script.ScriptLine.{ScriptLine}
-use Rattle.model_store.specs.{IsOrderly, Refuses}
+use Rattle.model_store.specs.{IsOrderly, RefusesToOpen}
 use Rattle.model_store.specs.Reading.{Reading}
 use Rattle.model_store.specs.declared.refusal.Refusal.{Refusal}
 use Rattle.model_store.specs.declared.refusal.Refusal.TheVariants as refusal
@@ -151,10 +151,11 @@ module _ (call : LabCall) (command : Command) (drive : Drive) (stops : Stops) (s
   -- the store is refused
   refused-by : (f : RecFault) (cause : Refusal) (log_after data_after : Seen) → log_after.tells ≡ call.log.now.tells → data_after.tells ≡ call.store.now.tells
       → IsOpening 0 0 log.tells data_device.tells call stops → HasFaultCause log data_device log_after data_after f
-      → WhereStillTold log_after.tells data_after.tells (OnContents log.tells data_device.tells (λ log_bytes data_bytes. Refuses log_bytes data_bytes cause)) → EndsWith call command (outcome.Fault (fault.Store cause))
-  refused-by f cause log_after data_after log_is data_is is has refused =
+      → ((n : ℕ) → cause ≡ refusal.SmallData n → call.store.entry.size < n)
+      → WhereStillTold log_after.tells data_after.tells (OnContents log.tells data_device.tells (λ log_bytes data_bytes. RefusesToOpen log_bytes data_bytes cause)) → EndsWith call command (outcome.Fault (fault.Store cause))
+  refused-by f cause log_after data_after log_is data_is is has short refused =
       unplayed-refused call command drive stops script running laws is.armed (opened-reads call stops is.armed laws log.tells data_device.tells is.log_as is.data_as keeps script)
-      cause is.log_mid is.data_mid
+      cause is.log_mid is.data_mid short
       (refused-at call stops is.armed laws log.tells data_device.tells is.log_as is.data_as cause (λ log_on data_on. refused (moved log_is log_on) (moved data_is data_on)))
       (refused-kept call stops is.armed laws log.tells data_device.tells is.log_as is.data_as cause (λ log_on data_on. refused (moved log_is log_on) (moved data_is data_on))
       (λ log_on data_on. weaker-both log.tells data_device.tells
@@ -165,30 +166,31 @@ module _ (call : LabCall) (command : Command) (drive : Drive) (stops : Stops) (s
       (has.kept (moved log_is log_on) (moved data_is data_on) cause)))
 
   pub unopened-comes : (f : RecFault) (log_after data_after : Seen) → log_after.tells ≡ call.log.now.tells → data_after.tells ≡ call.store.now.tells
-      → IsOpening (failures (log_error f)) (failures (data_error f)) log.tells data_device.tells call stops
+      → IsOpening (failures (log_error f)) (failures (data_error f)) log.tells data_device.tells call stops → data_device.size ≡ call.store.entry.size
       → ((reading : Reading) → WhereBothTell log.tells data_device.tells (λ log_disk data_disk. IsOpenable reading log_disk data_disk
       → f ≢ NoMemory → call.store.now.tells ≢ None → IfSome call.log.now.tells (IsNotOpened reading)))
       → HasFaultCause log data_device log_after data_after f → ComesTo call command drive stops script (unopened f)
-  unopened-comes LogDev log_after data_after log_is data_is is unmoved has = (
+  unopened-comes LogDev log_after data_after log_is data_is is sized unmoved has = (
     stopped-by is (λ reading. weaker-both {Q = λ log_disk data_disk. IsOpenable reading log_disk data_disk → call.store.now.tells ≢ None → IfSome call.log.now.tells (IsNotOpened reading)} log.tells data_device.tells
         (λ log_disk data_disk kept openable. kept openable (λ same. cc)) (unmoved reading)),
     omega (arith, is.log_mid),
   )
-  unopened-comes DataDev log_after data_after log_is data_is is unmoved has = (
+  unopened-comes DataDev log_after data_after log_is data_is is sized unmoved has = (
     stopped-by is (λ reading. weaker-both {Q = λ log_disk data_disk. IsOpenable reading log_disk data_disk → call.store.now.tells ≢ None → IfSome call.log.now.tells (IsNotOpened reading)} log.tells data_device.tells
         (λ log_disk data_disk kept openable. kept openable (λ same. cc)) (unmoved reading)),
     (omega (arith, is.data_mid), is.log_mid),
   )
-  unopened-comes NoMemory log_after data_after log_is data_is is unmoved has = unplayed-memory call command drive stops script running laws is.armed
+  unopened-comes NoMemory log_after data_after log_is data_is is sized unmoved has = unplayed-memory call command drive stops script running laws is.armed
       (opened-reads call stops is.armed laws log.tells data_device.tells is.log_as is.data_as keeps script)
-  unopened-comes (SmallLog n) log_after data_after log_is data_is is unmoved has = refused-by (SmallLog n) (refusal.SmallLog n) log_after data_after log_is data_is is has has.refused
-  unopened-comes NotFormatted log_after data_after log_is data_is is unmoved has = refused-by NotFormatted refusal.NotFormatted log_after data_after log_is data_is is has has.refused
-  unopened-comes (BadFormat n) log_after data_after log_is data_is is unmoved has = refused-by (BadFormat n) (refusal.BadFormat n) log_after data_after log_is data_is is has has.refused
-  unopened-comes (SmallData n) log_after data_after log_is data_is is unmoved has = refused-by (SmallData n) (refusal.SmallData n) log_after data_after log_is data_is is has has.refused
-  unopened-comes NoCheckpoint log_after data_after log_is data_is is unmoved has = refused-by NoCheckpoint refusal.NoCheckpoint log_after data_after log_is data_is is has has.refused
-  unopened-comes (BadRecord lsn) log_after data_after log_is data_is is unmoved has = refused-by (BadRecord lsn) (refusal.BadRecord lsn) log_after data_after log_is data_is is has has.refused
-  unopened-comes (PageLost p) log_after data_after log_is data_is is unmoved has = refused-by (PageLost p) (refusal.PageLost p) log_after data_after log_is data_is is has has.refused
-  unopened-comes (PageAhead p lsn) log_after data_after log_is data_is is unmoved has = refused-by (PageAhead p lsn) (refusal.PageAhead p lsn) log_after data_after log_is data_is is has has.refused
+  unopened-comes (SmallLog n) log_after data_after log_is data_is is sized unmoved has = refused-by (SmallLog n) (refusal.SmallLog n) log_after data_after log_is data_is is has (λ m same. absurd (cc)) has.refused
+  unopened-comes NotFormatted log_after data_after log_is data_is is sized unmoved has = refused-by NotFormatted refusal.NotFormatted log_after data_after log_is data_is is has (λ m same. absurd (cc)) has.refused
+  unopened-comes (BadFormat n) log_after data_after log_is data_is is sized unmoved has = refused-by (BadFormat n) (refusal.BadFormat n) log_after data_after log_is data_is is has (λ m same. absurd (cc)) has.refused
+  unopened-comes (SmallData n) log_after data_after log_is data_is is sized unmoved has = refused-by (SmallData n) (refusal.SmallData n) log_after data_after log_is data_is is has
+      (λ m same. (let n_is : n ≡ m = cc in omega (arith, has.lengths, sized, n_is))) has.refused
+  unopened-comes NoCheckpoint log_after data_after log_is data_is is sized unmoved has = refused-by NoCheckpoint refusal.NoCheckpoint log_after data_after log_is data_is is has (λ m same. absurd (cc)) has.refused
+  unopened-comes (BadRecord lsn) log_after data_after log_is data_is is sized unmoved has = refused-by (BadRecord lsn) (refusal.BadRecord lsn) log_after data_after log_is data_is is has (λ m same. absurd (cc)) has.refused
+  unopened-comes (PageLost p) log_after data_after log_is data_is is sized unmoved has = refused-by (PageLost p) (refusal.PageLost p) log_after data_after log_is data_is is has (λ m same. absurd (cc)) has.refused
+  unopened-comes (PageAhead p lsn) log_after data_after log_is data_is is sized unmoved has = refused-by (PageAhead p lsn) (refusal.PageAhead p lsn) log_after data_after log_is data_is is has (λ m same. absurd (cc)) has.refused
 
 -- A STORE THAT WAS OPENED on both
 module _ {L D : Type 0} (log_seen : L → Seen) (data_seen : D → Seen) (call : LabCall) (command : Command) (drive : Drive) (stops : Stops) (script : List ScriptLine)

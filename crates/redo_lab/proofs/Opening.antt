@@ -1,8 +1,9 @@
 -- Two devices from the arming of their fuses on, while a store is opened on them.
-use Rattle.std.proofs.Common.{ℕ, ◌≡◌, ◌+◌, ◌⊎◌, cond, List, Option, Some, None, IfSome, sym, ap, subst, ◌∙◌, inl, inr, ⊎_elim, ◌≢◌, refl, true}
+use Rattle.std.proofs.Common.{ℕ, ◌≡◌, ◌+◌, ◌<◌, ◌≤◌, ◌⊎◌, arith, cond, length, List, Option, Some, None, IfSome, sym, ap, subst, ◌∙◌, inl, inr, ⊎_elim, ◌≢◌, refl, true}
 use Rattle.std.proofs.lemmas.Bool.{eq-eqb}
 use Rattle.model_base.proofs.ShapeLimits.{default_within}
-use Rattle.model_base.specs.{default_shape, HasRisen}
+use Rattle.model_base.specs.declared.shape.Shape.{Shape}
+use Rattle.model_base.specs.{default_shape, HasRisen, run_shape}
 use Rattle.model_base.specs.declared.limits.TheConstants.{BLOCK_SIZE}
 use Rattle.model_device.specs.Disk.{Disk}
 use Rattle.model_log.specs.{block_of, IsAtDataStart, start_after}
@@ -13,9 +14,11 @@ use Rattle.model_script.specs.declared.asked.Command.{Command}
 use Rattle.model_script.specs.declared.asked.Drive.{Drive}
 use Rattle.model_script.specs.declared.misfit.Misfit.{Misfit}
 use Rattle.model_script.specs.declared.script.ScriptLine.{ScriptLine}
-use Rattle.model_store.specs.{IsReading, IsUnused, Refuses}
+use Rattle.model_page.specs.{data_device_length}
+use Rattle.model_store.specs.{IsReading, IsUnused, RefusesToOpen}
 use Rattle.model_store.specs.Reading.{Reading}
 use Rattle.model_store.specs.declared.refusal.Refusal.{Refusal}
+use Rattle.model_store.specs.declared.refusal.Refusal.TheVariants as refusal
 use Rattle.model_theorem.specs.{IsOpenedBefore, misfit_on, Opened, opened_as}
 use Rattle.redo_open.specs.{IsNotOpened, IsOpeningOf, WhereBothTell}
 use Rattle.redo_open.specs.Opening.{WhereStillTold}
@@ -27,7 +30,7 @@ use Rattle.redo_lab.specs.Asked.{IsScriptFor}
 use Rattle.redo_lab.specs.declared.outcome.Outcome.TheVariants as outcome
 use Rattle.redo_lab.specs.declared.playing.Stops.{Stops}
 use Rattle.redo_lab.proofs.Ends.{ends-refused, ends-with, in-run, leaves-read, leaves-run, left-read, runs-script, tells-armed, unfailed-armed}
-use Rattle.redo_lab.proofs.Found.{found-armed, one-opened, prefix-opened, stopped-before}
+use Rattle.redo_lab.proofs.Found.{found-armed, one-opened, openable-limits, prefix-opened, stopped-before}
 use Rattle.redo_lab.proofs.Told.{both-told, on-contents}
 use Rattle.redo_lab.proofs.Told.{some-tells, some-told}
 use Rattle.redo_lab.specs.Call.{HaveSameContents, LabCall, WhereToldAtEntry}
@@ -35,7 +38,7 @@ use Rattle.redo_lab.specs.Cause.{archive_size, CanPlay, EndsBefore}
 use Rattle.redo_lab.specs.Devices.{AreArmed}
 use Rattle.redo_lab.specs.Laws.{Laws}
 use Rattle.redo_lab.specs.Runs.{CommandRuns}
-use Rattle.redo_lab.specs.Store.{AreReadAsPrefix, AreRefused, DevicesOpenAs}
+use Rattle.redo_lab.specs.Store.{AreReadAsPrefix, DevicesOpenAs}
 use Rattle.redo_lab.specs.Told.{AreLeftRead, IsOpenedFirst}
 use Rattle.redo_lab.specs.Ending.{EndsWith}
 
@@ -91,7 +94,7 @@ module _ (call : LabCall) (stops : Stops) (armed : AreArmed call stops) (laws : 
       → WhereBothTell call.log.now.tells call.store.now.tells (KeepsOpened found.reading) in
       let kept = both-told log_met data_met Keeps (keeps found.reading) found.log found.data_disk (sym log_as ∙ found.log_is) (sym data_as ∙ found.data_is) found.openable in
       subst (λ (o : Opened). AreReadAsPrefix script o None log_now data_now) (sym found.same)
-      (prefix-opened script found.reading log_now data_now (both-told call.log.now.tells call.store.now.tells (KeepsOpened found.reading) kept log_now data_now log_now_is data_now_is))
+      (prefix-opened script found.reading log_now data_now (openable-limits found.reading found.log found.data_disk found.openable) (both-told call.log.now.tells call.store.now.tells (KeepsOpened found.reading) kept log_now data_now log_now_is data_now_is))
 
   -- OPENING WAS STOPPED where the log device tells that it hasn't come to its end.
   pub stopped-first : ((reading : Reading) → WhereBothTell log_met data_met (λ log data_disk. IsOpenable reading log data_disk
@@ -164,23 +167,35 @@ module _ (call : LabCall) (stops : Stops) (armed : AreArmed call stops) (laws : 
       ))
       (used-or-not log data_disk log_is data_is log_on data_on)
 
+  -- a store whose data device has room for a run on it isn't refused
+  not-refused : (log_bytes data_bytes : List ℕ) (reading : Reading) (cause : Refusal) → IsReading log_bytes data_bytes reading
+      → data_device_length (run_shape reading.shape) ≤ length data_bytes → RefusesToOpen log_bytes data_bytes cause → ⊥
+  not-refused log_bytes data_bytes reading cause is_read long refuses = ⊎_elim
+      (λ refused. laws.one_answer log_bytes data_bytes reading cause is_read refused)
+      (λ short.
+      let same = laws.one_reading log_bytes data_bytes short.reading reading short.is_read is_read in
+      let less : length data_bytes < data_device_length (run_shape reading.shape) =
+      subst (λ (r : Reading). length data_bytes < data_device_length (run_shape r.shape)) same short.short in
+      absurd (omega (arith, less, long)))
+      refuses
+
   -- A STORE THAT IS REFUSED was in use.
-  pub refused-at : (cause : Refusal) → WhereStillTold call.log.now.tells call.store.now.tells (OnContents log_met data_met (λ log_bytes data_bytes. Refuses log_bytes data_bytes cause))
-      → WhereToldAtEntry call (λ log data_disk. (IsUnused log.reads → ⊥) × AreRefused cause log data_disk)
+  pub refused-at : (cause : Refusal) → WhereStillTold call.log.now.tells call.store.now.tells (OnContents log_met data_met (λ log_bytes data_bytes. RefusesToOpen log_bytes data_bytes cause))
+      → WhereToldAtEntry call (λ log data_disk. (IsUnused log.reads → ⊥) × RefusesToOpen log.reads data_disk.reads cause)
   refused-at cause refused log data_disk log_is data_is log_on data_on = ⊎_elim
       (λ unused.
-      let read = formatted-read log data_disk log_is data_is log_on data_on unused (λ log_bytes data_bytes. Refuses log_bytes data_bytes cause) (refused log_on data_on) in
-      absurd (laws.one_answer read.0 read.1 (formatted_store default_shape) cause read.2 read.3))
-      (λ used. (used, used-read log data_disk log_is data_is log_on data_on used (λ log_bytes data_bytes. Refuses log_bytes data_bytes cause) (refused log_on data_on)))
+      let read = formatted-read log data_disk log_is data_is log_on data_on unused (λ log_bytes data_bytes. RefusesToOpen log_bytes data_bytes cause) (refused log_on data_on) in
+      absurd (not-refused read.0 read.1 (formatted_store default_shape) cause read.2 read.2.scan.devices.data_long read.3))
+      (λ used. (used, used-read log data_disk log_is data_is log_on data_on used (λ log_bytes data_bytes. RefusesToOpen log_bytes data_bytes cause) (refused log_on data_on)))
       (used-or-not log data_disk log_is data_is log_on data_on)
 
   -- and both devices mean what they meant
-  pub refused-kept : (cause : Refusal) → WhereStillTold call.log.now.tells call.store.now.tells (OnContents log_met data_met (λ log_bytes data_bytes. Refuses log_bytes data_bytes cause))
-      → WhereStillTold call.log.now.tells call.store.now.tells (OnContents log_met data_met (λ log_bytes data_bytes. Refuses log_bytes data_bytes cause
+  pub refused-kept : (cause : Refusal) → WhereStillTold call.log.now.tells call.store.now.tells (OnContents log_met data_met (λ log_bytes data_bytes. RefusesToOpen log_bytes data_bytes cause))
+      → WhereStillTold call.log.now.tells call.store.now.tells (OnContents log_met data_met (λ log_bytes data_bytes. RefusesToOpen log_bytes data_bytes cause
       → (call.log.now.tells ≡ call.log.armed_from) × (call.store.now.tells ≡ call.store.armed_from))) → HaveSameContents call
   refused-kept cause refused keeps log data_disk log_is data_is log_on data_on =
       let at = refused-at cause refused log data_disk log_is data_is log_on data_on in
-      let kept = used-read log data_disk log_is data_is log_on data_on at.0 (λ log_bytes data_bytes. Refuses log_bytes data_bytes cause
+      let kept = used-read log data_disk log_is data_is log_on data_on at.0 (λ log_bytes data_bytes. RefusesToOpen log_bytes data_bytes cause
       → (call.log.now.tells ≡ call.log.armed_from) × (call.store.now.tells ≡ call.store.armed_from)) (keeps log_on data_on) at.1 in
       ⊎_elim (λ were. absurd (at.0 (were.unused log data_disk log_is data_is log_on data_on))) (λ were. (kept.0 ∙ were.kept.0 log_on, kept.1 ∙ were.kept.1 data_on)) armed.prepared.which
 
@@ -242,13 +257,23 @@ module _ (call : LabCall) (command : Command) (drive : Drive) (stops : Stops) (s
           cc
 
   pub unplayed-refused : (cause : Refusal) → call.log.fuse.mid ≡ 0 → call.store.fuse.mid ≡ 0
-      → WhereToldAtEntry call (λ log data_disk. (IsUnused log.reads → ⊥) × AreRefused cause log data_disk) → HaveSameContents call
+      → ((n : ℕ) → cause ≡ refusal.SmallData n → call.store.entry.size < n)
+      → WhereToldAtEntry call (λ log data_disk. (IsUnused log.reads → ⊥) × RefusesToOpen log.reads data_disk.reads cause) → HaveSameContents call
       → EndsWith call command (outcome.Fault (fault.Store cause))
-  unplayed-refused cause log_none data_none refused kept = ends-refused call command drive script running laws cause (tells-armed armed) (leaves-read call script None reads)
+  unplayed-refused cause log_none data_none short refused kept = ends-refused call command drive script running laws cause (tells-armed armed) (leaves-read call script None reads)
       (unfailed-armed armed log_none data_none)
       (inr (armed.prepared.header, λ log data_disk log_is data_is log_on data_on. inr (refused log data_disk log_is data_is log_on data_on)), kept)
       (λ can.
       let at = refused can.log can.store can.log_tells can.store_tells can.log_still can.store_still in ⊎_elim
       (λ unused. at.0 unused.unused)
-      (λ orderly. laws.one_answer can.log.reads can.store.reads orderly.reading cause orderly.orderly.reads at.1)
+      (λ orderly. ⊎_elim
+      (λ refuses. laws.one_answer can.log.reads can.store.reads orderly.reading cause orderly.orderly.reads refuses)
+      (λ no_room.
+      let read = laws.one_reading can.log.reads can.store.reads no_room.reading orderly.reading no_room.is_read orderly.orderly.reads in
+      let shape : run_shape no_room.reading.shape ≡ can.opened.shape =
+      ap (λ (r : Reading). run_shape r.shape) read ∙ sym orderly.shape_is in
+      let long : data_device_length (run_shape no_room.reading.shape) ≤ call.store.entry.size =
+      subst (λ (s : Shape). data_device_length s ≤ call.store.entry.size) (sym shape) can.long.data_long in
+      absurd (omega (arith, long, short (data_device_length (run_shape no_room.reading.shape)) no_room.refusal_is)))
+      at.1)
       can.opens)

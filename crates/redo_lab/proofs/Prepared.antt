@@ -1,5 +1,5 @@
 -- The two devices while a run prepares them.
-use Rattle.std.proofs.Common.{ℕ, ◌≡◌, ◌≤◌, ◌<◌, ◌↔◌, List, true, false, IsTrue, length, Option, Some, Ok, IfSome, refl, ap, ◌∙◌, inl, inr, ⊎_elim, arith, ◌≢◌, None}
+use Rattle.std.proofs.Common.{ℕ, ◌≡◌, ◌≤◌, ◌<◌, ◌↔◌, List, true, false, IsTrue, length, Option, Some, Ok, IfSome, refl, ap, subst, ◌∙◌, inl, inr, ⊎_elim, arith, ◌≢◌, None}
 use Rattle.std.proofs.lemmas.Bool.{cases_lt, false≢true}
 use Rattle.model_base.specs.{default_shape}
 use Rattle.model_base.specs.declared.shape.Shape.{Shape}
@@ -39,6 +39,7 @@ use Rattle.redo_lab.proofs.Told.{both-told, still-equal}
 use Rattle.redo_lab.specs.Call.{BothDevices, Guarded, HaveSameContents, LabCall, WhereToldAtEntry, WhereToldNow, guarded}
 use Rattle.redo_lab.specs.Cause.{AreLongEnough, CanPlay, IsUnprepared}
 use Rattle.redo_lab.specs.Devices.{ArePrepared, IsFirstRead, IsUnarmed, to_be_armed}
+use Rattle.redo_lab.proofs.Found.{unused-unread}
 use Rattle.redo_lab.specs.Laws.{Laws}
 use Rattle.redo_lab.specs.Runs.{CommandRuns, fault_of}
 use Rattle.redo_lab.specs.Store.{IsTooShort}
@@ -129,10 +130,18 @@ long-not-short log_size data_size (refusal.SmallLog n) long short = absurd (omeg
 long-not-short log_size data_size (refusal.SmallData n) long short = absurd (omega (arith, long.data_long, short.1))
 long-not-short log_size data_size cause long short = absurd short
 
+-- where the log device is unused, a run is made on a new store
+long-unused : {call : LabCall} {drive : Drive} {script : List ScriptLine} → Laws → (can : CanPlay call drive script) → IsUnused can.log.reads
+    → AreLongEnough default_shape call.log.entry.size call.store.entry.size
+long-unused {call = call} laws can unused = ⊎_elim
+    (λ new. subst (λ (shape : Shape). AreLongEnough shape call.log.entry.size call.store.entry.size) new.shape_is can.long)
+    (λ orderly. absurd (unused-unread laws can.log.reads can.store.reads orderly.reading unused orderly.orderly.reads))
+    can.opens
+
 has-header : {call : LabCall} {drive : Drive} {script : List ScriptLine} → CanPlay call drive script → IfSome call.log.entry.tells (HasSize call.log.entry.size)
     → HEADER_BYTES ≤ call.log.entry.size
 has-header {call = call} can sized = ⊎_elim
-    (λ unused. let long = (can.long unused.unused).log_long in omega (arith, long))
+    (λ unused. let long = can.long.log_long in omega (arith, long))
     (λ orderly.
     let size = at-some call.log.entry.tells (HasSize call.log.entry.size) can.log sized can.log_tells in
     let header = orderly.orderly.reads.scan.devices.head.long in
@@ -192,7 +201,8 @@ module _ (call : LabCall) (command : Command) (drive : Drive) (script : List Scr
             ends-refused call command drive script running laws cause (telling was.unarmed) (leaves-unprepared call laws (unprepared-first was))
             ((was.unarmed.0.early, was.unarmed.0.mid, was.unarmed.0.late), (was.unarmed.1.early, was.unarmed.1.mid, was.unarmed.1.late))
             (inr (header, λ log data_disk log_is data_is log_on data_on. inl (was-unused call met met_same unused log data_disk log_is data_is log_on data_on, short)), kept-first was)
-            (λ can. long-not-short call.log.entry.size call.store.entry.size cause (can.long (was-unused call met met_same unused can.log can.store can.log_tells can.store_tells can.log_still can.store_still)) short));
+            (λ can. long-not-short call.log.entry.size call.store.entry.size cause (long-unused laws can
+            (was-unused call met met_same unused can.log can.store can.log_tells can.store_tells can.log_still can.store_still)) short));
         log_fails = λ was. unprepared-log call command drive script running laws (telling was) (unprepared-after met met_same unused keeps was) (was.0.risen (omega arith)) (omega (arith, was.0.early));
         data_fails = λ was. unprepared-data call command drive script running laws (telling was) (unprepared-after met met_same unused keeps was) (was.1.risen (omega arith)) (omega (arith, was.1.early));
         memory = λ was. unprepared-memory call command drive script running laws (telling was) (unprepared-after met met_same unused keeps was);

@@ -6,6 +6,7 @@ use Rattle.std.specs.Prelude.{IfSome}
 use lib.ListN.{get_elem?}
 use mathlib.Core.Option.{some}
 use native.Mathlib.Decide.{dec_le}
+use Rattle.model_base.specs.{run_shape}
 use Rattle.model_base.specs.declared.shape.Shape.{Shape}
 use Rattle.model_core.specs.{Given, lsn}
 use Rattle.model_core.specs.Actors as model
@@ -86,27 +87,27 @@ module _ {L D R : Type 0} {archive : Bool} (log_seen : L → Seen) (log_gives : 
       let stands = stands_for_run logs (run_data_side log_seen data_seen run) run.setup script (opened_as reading)
       (core_of log_seen data_seen run by.last (views_of actors)) R of_script (by.is_run.start ∙ as_read.start) in
       let wholes : List Whole = wholes_of script reading.shape.space stands.run.entries in
-      let shape : ◌≡◌ {A = Shape} part.shape reading.shape = by.log_shape ∙ may.runnable.log_shape ∙ as_read.shape in
+      let shape : ◌≡◌ {A = Shape} part.shape (run_shape reading.shape) = by.log_shape ∙ may.runnable.log_shape ∙ as_read.shape in
       let here : DiskHolds part.shape (lsn run.setup.base) wholes part.marks part.tails part.failed log_now =
       as_told (log_seen part.dev).tells
       (DiskHolds part.shape (lsn run.setup.base) wholes part.marks part.tails part.failed) log_now
       (ap (λ (z : log.Part L). (log_seen z.dev).tells) (sym by.log) ∙ log_told)
       (R.both.logged.global.part.holds.groups begun.log wholes stands.groups) in
       let legal = stands.is_run.legal in
-      let good = good-from reading.shape script stands.run.entries given.fits
+      let good = good-from (run_shape reading.shape) script stands.run.entries given.fits
       (have-lines script reading.shape.space stands.run.start stands.run.marks stands.run.entries legal) in
       let small = stands.small in
-      let fits : FitsStore reading.shape wholes part.marks =
+      let fits : FitsStore (run_shape reading.shape) wholes part.marks =
       record {
         good = good;
         small = omega arith;
-        some_blocks = some-blocks reading.shape given.shape;
-        few_blocks = few-blocks reading.shape given.shape;
+        some_blocks = some-blocks (run_shape reading.shape) given.shape;
+        few_blocks = few-blocks (run_shape reading.shape) given.shape;
       } in
-      let on_shape : IsLive reading.shape (lsn run.setup.base) wholes part.marks part.tails log_now =
+      let on_shape : IsLive (run_shape reading.shape) (lsn run.setup.base) wholes part.marks part.tails log_now =
       subst (λ (z : Shape). IsLive z (lsn run.setup.base) wholes part.marks part.tails log_now) shape
       (record { holds = here.holds; is_written = here.live live }) in
-      let read = read_to_marks reading.shape (lsn run.setup.base) wholes part.marks part.tails log_now data_now.reads
+      let read = read_to_marks (run_shape reading.shape) (lsn run.setup.base) wholes part.marks part.tails log_now data_now.reads
       left fits on_shape (R.both.logged.global.part.holds.all_asked live) is in
       let marks : ◌≡◌ {A = Marks} (word_marks R.shared) driven.closed.marks =
       sym (by.marks ∙ marks_same by.last.words.words R.shared R.flat_is) in (

@@ -9,7 +9,7 @@ pub returns-in-Err-clause-ready : goal.returns-in-Err-clause-ready
 returns-in-Err-clause-ready g c = λ words archive source source_now log_entry data_entry command asked stops running same room armed uncalled. rw c.unopened.ensures
     (unopened-comes (call_on g.L.Sectors.seen g.L.Sectors.gives g.D.Sectors.seen g.D.Sectors.gives words archive source source_now log_entry data_entry c.in-Err.log c.in-Err.store)
     command asked stops c.args.script.now running c.laws.ensures _ _ (opens-keeps _ _ _ _ _ c.in-Err.ensures.safely) c.in-Err.fault _ _ refl refl
-    (is-opening words archive source source_now log_entry data_entry armed uncalled c.in-Err.ensures.called.log_calls c.in-Err.ensures.called.data_calls) (opens-unmoved _ _ _ _ (c.in-Err.fault, c.in-Err.log, c.in-Err.store) c.in-Err.ensures.safely) c.in-Err.ensures.cause)
+    (is-opening words archive source source_now log_entry data_entry armed uncalled c.in-Err.ensures.called.log_calls c.in-Err.ensures.called.data_calls) armed.data_device.same.size (opens-unmoved _ _ _ _ (c.in-Err.fault, c.in-Err.log, c.in-Err.store) c.in-Err.ensures.safely) c.in-Err.ensures.cause)
 
 pub returns-in-Ok-judge-clause-ready : goal.returns-in-Ok-judge-clause-ready
 returns-in-Ok-judge-clause-ready g c = λ words archive source source_now log_entry data_entry command asked stops running same room armed uncalled.
