@@ -106,7 +106,8 @@ still-found Three shape number ckpt log is = inr is
 
 -- and where opening was stopped it is the one that was found
 opening-stopped : (log data_bytes : List ℕ) (opened : Opened) (reading : Reading) (disk : Disk)
-    → ReadsAsOpened log data_bytes opened reading → run_shape opened.shape ≡ opened.shape → disk.base ≡ log → IsOpeningStopped opened.shape (settled log) disk
+    → ReadsAsOpened log data_bytes opened reading → run_shape opened.shape ≡ opened.shape → disk.base ≡ log
+    → IsOpeningStopped opened.shape (settled log) disk
 opening-stopped log data_bytes opened reading disk as_opened runs base =
     let here : HasCheckpoint reading.format opened.shape reading.number reading.ckpt log = found-checkpoint log data_bytes opened reading as_opened in
     record {

@@ -102,8 +102,8 @@ refuses-run shape armed met run is runs =
     done.number done.ckpt here.number here.ckpt (runs.unmoved (run_format shape)) found here.newest.newest in
     absurd (omega (arith, here.from))
 
--- where the sizes that were found are those of a run, opening that was stopped left the header and the newest checkpoint
--- as they were
+-- where the sizes that were found are those of a run, opening that was stopped left the header and the newest
+-- checkpoint as they were
 record IsUnmoved (shape : Shape) (armed met : Disk) : Type 0 where
   head : head_of met.base ≡ head_of armed.base
   newest : newest_checkpoint (run_layout shape) met.base ≡ newest_checkpoint (run_layout shape) armed.base
@@ -124,7 +124,8 @@ unmoved-run shape armed met stopped is =
     ⊎_elim (λ early. absurd (early other)) (λ same. same) stopped.unmoved.still in
     record {
       head = stopped.unmoved.head ∙ ap (λ (f : Format). Good f was) (other ∙ sym one) ∙ sym found.head;
-      newest = subst (λ (s : Shape). newest_checkpoint (run_layout s) met.base ≡ newest_checkpoint (run_layout s) armed.base)
+      newest = subst
+          (λ (s : Shape). newest_checkpoint (run_layout s) met.base ≡ newest_checkpoint (run_layout s) armed.base)
           is (after ∙ sym before);
     }
 

@@ -32,8 +32,8 @@ run-stretches shape n limits below =
     ⊎_elim (λ full. omega (arith, full, below)) (λ early. omega (arith, early.slots, below)) limits.slots
 
 -- so an image that is fair by the sizes of a run is fair by the store's own
-pub own-fair : (shape : Shape) (disk : Disk) (image : List ℕ) → IsWithinLimits shape → IsFair (run_shape shape) disk image
-    → IsFair shape disk image
+pub own-fair : (shape : Shape) (disk : Disk) (image : List ℕ) → IsWithinLimits shape
+    → IsFair (run_shape shape) disk image → IsFair shape disk image
 unfolding stretch_at
 own-fair shape disk image limits fair = record {
   possible = fair.possible;

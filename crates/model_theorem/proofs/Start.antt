@@ -40,13 +40,14 @@ start-given reading script log_disk data_disk is =
 -- the log device
 pub start-live : (reading : Reading) (script : List ScriptLine) (log_disk data_disk : Disk) → IsStart reading script log_disk data_disk
     → IsLive (run_shape reading.shape) (start_of reading) []
-    (first_marks (start_of reading) (reading.number + numbers_taken reading.format)) (first_tails (start_of reading)) log_disk
+    (first_marks (start_of reading) (reading.number + numbers_taken reading.format)) (first_tails (start_of reading))
+    log_disk
 start-live reading script log_disk data_disk is =
     let log : IsLogRead is.log_bytes reading = log-read is.log_bytes is.data_bytes reading is.orderly.reads in
     let shape : Shape = run_shape reading.shape in
     let layout : IsLayout (run_layout shape) = is_layout_of Two shape log.limits.many_blocks log.limits.few_blocks in
-    fresh-live shape (start_of reading) (reading.number + numbers_taken reading.format) log_disk (has-blocks (run_layout shape) layout)
-    log.log.place (omega (arith, log.log.started, log.log.low)) is.ready.log
+    fresh-live shape (start_of reading) (reading.number + numbers_taken reading.format) log_disk
+    (has-blocks (run_layout shape) layout) log.log.place (omega (arith, log.log.started, log.log.low)) is.ready.log
 
 -- the reading, with the sizes of a run
 abbrev as-run : Reading → Reading
@@ -65,7 +66,8 @@ as-run reading = record {
 pub start-unwritten : (reading : Reading) (script : List ScriptLine) (log_disk data_disk : Disk) → IsStart reading script log_disk data_disk
     → HasOpenedPages (run_shape reading.shape) reading.pages data_disk
 start-unwritten reading script log_disk data_disk is =
-    let rewritten : (image : List ℕ) → IsFair (run_shape reading.shape) data_disk image → IsRewritten (as-run reading) image =
+    let shape : Shape = run_shape reading.shape in
+    let rewritten : (image : List ℕ) → IsFair shape data_disk image → IsRewritten (as-run reading) image =
     λ image fair. stored-image (as-run reading) data_disk image is.orderly.reads.count is.ready.pages fair in
     record {
       long = is.ready.pages.keeps.long;

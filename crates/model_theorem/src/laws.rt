@@ -63,7 +63,8 @@ pub fn opened_store_is_closed()
     ensures live { (reading : Reading) (script : List ScriptLine) (log_disk data_disk : Disk)
         → IsStart reading script log_disk data_disk
         → IsLive (run_shape reading.shape) (start_of reading) []
-        (first_marks (start_of reading) (reading.number + numbers_taken reading.format)) (first_tails (start_of reading)) log_disk }
+        (first_marks (start_of reading) (reading.number + numbers_taken reading.format))
+        (first_tails (start_of reading)) log_disk }
     ensures unwritten { (reading : Reading) (script : List ScriptLine) (log_disk data_disk : Disk)
         → IsStart reading script log_disk data_disk → HasOpenedPages (run_shape reading.shape) reading.pages data_disk }
     ensures closed { (failures : ℕ) (reading : Reading) (script : List ScriptLine) (left : List (ℕ × ℕ)) (log_disk data_disk : Disk)
