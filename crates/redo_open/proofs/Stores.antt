@@ -1,5 +1,5 @@
 -- A store that is opened, from what its devices told at first.
-use Rattle.std.proofs.Common.{◌≡◌, ◌∙◌, ◌≤◌, ◌<◌, ℕ, inr, List, length, Option, Some, None, Ok, Err, refl, sym, ap, subst, ⊎_elim, arith}
+use Rattle.std.proofs.Common.{◌≡◌, ◌∙◌, ◌≤◌, ◌<◌, ℕ, inl, inr, List, length, Option, Some, None, Ok, Err, refl, sym, ap, subst, ⊎_elim, arith}
 use Rattle.std.specs.Prelude.{IfErr, IfOk, IfSome}
 use Rattle.model_base.specs.{HasRisen, run_shape}
 use Rattle.model_base.specs.declared.shape.Shape.{Shape}
@@ -9,7 +9,7 @@ use Rattle.model_parts.specs.{KeepsOpened}
 use Rattle.model_log.specs.{log_device_length}
 use Rattle.model_page.specs.{data_device_length}
 use Rattle.model_log.proofs.Several.{one_group}
-use Rattle.model_store.specs.{IsOrderly, IsReading, RefusesToOpen}
+use Rattle.model_store.specs.{IsOrderly, IsReading, Refuses, RefusesToOpen}
 use Rattle.model_store.specs.Reading.{Reading}
 use Rattle.model_store.specs.declared.refusal.Refusal.{Refusal}
 use Rattle.model_store.specs.declared.refusal.Refusal.TheVariants as refusal
@@ -20,11 +20,11 @@ use Rattle.redo_disk.specs.Seen.{Seen}
 use Rattle.redo_disk.specs.declared.error.DevError.{DevError}
 use Rattle.redo_disk.specs.declared.error.DevError.TheVariants as device
 use Rattle.redo_open.specs.Devices.{IsNotOpened, IsOpenFault, IsSameDevice, WhereBothTell}
-use Rattle.redo_open.specs.Opening.{OpenResult, HasFaultCause, IsOpenedAs, IsOpeningOf, OpensSafely, WhereRefused, WhereStillTold, log_device_left, data_device_left}
+use Rattle.redo_open.specs.Opening.{OpenResult, HasFaultCause, HasOpeningCauseIn, IsOpenedAs, IsOpeningOf, OpensSafely, WhereRefused, WhereStillTold, log_device_left, data_device_left}
 use Rattle.redo_disk.proofs.Told.{told-step}
 use Rattle.redo_open.proofs.Entry.{keeps-anyway, unmoved-anyway}
 use Rattle.redo_open.proofs.Told.{risen-since}
-use Rattle.redo_recover.specs.{data_error, data_fault_of, HasLengthCause, IsLengthFault, IsUnchanged, log_error, log_fault_of, OnContents, refusal_of}
+use Rattle.redo_recover.specs.{data_error, data_fault_of, HasCauseIn, HasLengthCause, IsLengthFault, IsUnchanged, log_error, log_fault_of, OnContents, refusal_of}
 use Rattle.redo_recover.specs.Devices.{OnContent}
 use Rattle.redo_recover.specs.declared.fault.RecFault.{RecFault}
 use Rattle.redo_recover.specs.declared.fault.RecFault.TheVariants.{SmallLog, NotFormatted, BadFormat, SmallData, NoCheckpoint, BadRecord, PageLost, PageAhead, LogDev, DataDev, NoMemory}
@@ -108,6 +108,17 @@ all-contents : (log data_told : Option Disk) {P : List ℕ → List ℕ → Type
 all-contents None data_told each = tt
 all-contents (Some l) None each = tt
 all-contents (Some l) (Some d) each = each l.reads d.reads
+
+-- a cause for which contents are refused is one for which they aren't opened
+pub also-opening : (fault : RecFault) (log data_told : Option Disk) → HasCauseIn log data_told fault → HasOpeningCauseIn log data_told fault
+also-opening fault log data_told =
+    either-cause (refusal_of fault) log data_told
+  where
+    either-cause : (cause : Option Refusal) (log data_told : Option Disk)
+        → IfSome cause (λ one. OnContents log data_told (λ log_bytes data_bytes. Refuses log_bytes data_bytes one))
+        → IfSome cause (λ one. OnContents log data_told (λ log_bytes data_bytes. RefusesToOpen log_bytes data_bytes one))
+    either-cause None log data_told known = tt
+    either-cause (Some one) log data_told known = on-contents log data_told (λ log_bytes data_bytes refuses. inl refuses) known
 
 -- what is so anyway is so of a store that is refused
 pub also-refused : (log data_device : Seen) {P Q : Type 0} → P → Q → WhereRefused log data_device (P × Q)
