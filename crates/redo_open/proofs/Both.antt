@@ -113,7 +113,8 @@ pub base-fair : (disk : Disk) → IsFairLog disk disk.base
 base-fair disk = record { possible = base-image disk; each = λ k inside sealed. record { count = 0; some = omega arith; same = refl } }
 
 pub not-opened : (opened : Reading) (tail : Option Tail) (log_old data_old : Seen) (log_bytes data_bytes image : List ℕ) → OpensFrom opened tail log_old data_old log_bytes data_bytes
-    → IsClearing (found_layout opened) opened.ckpt (start_of opened) tail log_bytes image → IsUnopened opened.shape opened.number opened.ckpt image
+    → IsClearing (found_layout opened) opened.ckpt (start_of opened) tail log_bytes image
+    → IsUnopened opened.shape opened.number opened.ckpt image
 not-opened opened tail log_old data_old log_bytes data_bytes image from clearing =
     let log : IsLogRead log_bytes opened = log-read log_bytes data_bytes opened from.orderly.reads in
     let is : IsTailIn (found_layout opened) opened.ckpt tail = tail-read log_bytes data_bytes opened tail from.orderly.reads from.found in
@@ -222,16 +223,19 @@ marked-is_fresh opened tail log_old data_old log_bytes data_bytes old_log image 
     (subst (λ (n : ℕ). IsPut (place_of n) (NextText opened n) old_log one.marked) next one.put)
     (subst (λ (n : ℕ). IsMigrated opened.shape n (start_block opened) one.marked image) after one.migrated))) marked
 
-pub marked-log : (opened : Reading) (tail : Option Tail) (log_old data_old : Seen) (log_bytes data_bytes : List ℕ) (mid : Seen) (done : Unit {0}) (new : Seen)
+pub marked-log : (opened : Reading) (tail : Option Tail) (log_old data_old : Seen) (log_bytes data_bytes : List ℕ)
+    (mid : Seen) (done : Unit {0}) (new : Seen)
     → OpensFrom opened tail log_old data_old log_bytes data_bytes → IfSome mid.tells (Cleared opened tail log_bytes)
-    → MarkStep opened.format opened.shape opened.number (start_block opened) mid (Ok done) new → IfSome new.tells (IsFreshLog opened)
+    → MarkStep opened.format opened.shape opened.number (start_block opened) mid (Ok done) new
+    → IfSome new.tells (IsFreshLog opened)
 marked-log opened tail log_old data_old log_bytes data_bytes mid done new from known step =
     let Marked : Disk → Disk → Type 0 = λ a b. IsAtRestTo (log_device_length opened.shape) a → HasMarked opened.format opened.shape opened.number (start_block opened) a.reads b in
     told-step mid.tells new.tells (Cleared opened tail log_bytes) (IsFreshLog opened) Marked
     (λ a b cleared marks. (
     let has = marks (cleared-rests opened tail log_old data_old log_bytes data_bytes a from cleared) in
     subst (IsFreshLog opened) (sym has.nothing_pending)
-    (marked-is_fresh opened tail log_old data_old log_bytes data_bytes a.reads b.base from cleared.cleared has.marked))) known step.ok
+    (marked-is_fresh opened tail log_old data_old log_bytes data_bytes a.reads b.base from cleared.cleared has.marked)))
+    known step.ok
 
 -- until then it isn't opened
 unmoved-image : (opened : Reading) (tail : Option Tail) (log_old data_old : Seen) (log_bytes data_bytes old_log : List ℕ) (disk : Disk) → OpensFrom opened tail log_old data_old log_bytes data_bytes
@@ -244,7 +248,8 @@ unmoved-image opened tail log_old data_old log_bytes data_bytes old_log disk fro
     let zero : sector 0 old_log ≡ sector 0 log_bytes = clearing-header (found_layout opened) opened.ckpt (start_of opened) tail log_bytes old_log 0 log.log is (omega arith) clearing in
     let good : read_head (sector 0 log_bytes) ≡ Good opened.format opened.shape = sym (alike-head log_bytes from.alike) ∙ from.orderly.reads.scan.devices.head.head in
     ⊎_elim
-    (λ same. subst (IsUnopened opened.shape opened.number opened.ckpt) (sym same) (not-opened opened tail log_old data_old log_bytes data_bytes old_log from clearing))
+    (λ same. subst (IsUnopened opened.shape opened.number opened.ckpt) (sym same)
+    (not-opened opened tail log_old data_old log_bytes data_bytes old_log from clearing))
     (λ one. record {
       format = opened.format;
       head = head-first disk.base opened.format opened.shape (ap read_head (one.1 ∙ zero) ∙ good);

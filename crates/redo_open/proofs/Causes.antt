@@ -87,12 +87,14 @@ pub data-cause : (error : DevError) (fault : RecFault) → fault ≡ data_fault_
 data-cause device.Failed fault is = subst IsOpenFault (sym is) tt
 data-cause device.NoMemory fault is = subst IsOpenFault (sym is) tt
 
-pub data-risen : (before now : ℕ) (error : DevError) (fault : RecFault) → fault ≡ data_fault_of error → HasCause {T = Unit {0}} before now (Err error)
+pub data-risen : (before now : ℕ) (error : DevError) (fault : RecFault) → fault ≡ data_fault_of error
+    → HasCause {T = Unit {0}} before now (Err error)
     → IsErrOf {T = Unit {0}} (Err fault) DataDev → HasRisen before now
 data-risen before now device.Failed fault is cause failed = cause.failed refl
 data-risen before now device.NoMemory fault is cause failed = absurd cc
 
-pub data-not_log : {P : Type 0} (error : DevError) (fault : RecFault) → fault ≡ data_fault_of error → IsErrOf {T = Unit {0}} (Err fault) LogDev → P
+pub data-not_log : {P : Type 0} (error : DevError) (fault : RecFault) → fault ≡ data_fault_of error
+    → IsErrOf {T = Unit {0}} (Err fault) LogDev → P
 data-not_log device.Failed fault is failed = absurd cc
 data-not_log device.NoMemory fault is failed = absurd cc
 

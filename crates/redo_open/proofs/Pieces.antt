@@ -4,8 +4,10 @@ use Rattle.std.proofs.lemmas.List.{drop-replicate, get_or-drop, get_or-take, sam
 use Rattle.model_device.specs.{sector}
 
 -- so many zeros among more
-pub zeros-piece : (size at count : ℕ) → at + size ≤ count → take size (drop at (replicate {A = ℕ} count 0)) ≡ replicate size 0
-zeros-piece size at count within = ap (take size) (drop-replicate at count 0) ∙ take-replicate size (count - at) 0 (omega arith)
+pub zeros-piece : (size at count : ℕ) → at + size ≤ count → take size (drop at (replicate {A = ℕ} count 0)) ≡ replicate
+    size 0
+zeros-piece size at count within = ap (take size) (drop-replicate at count 0) ∙ take-replicate size (count - at) 0
+    (omega arith)
 
 -- they are the same where each sector of them is
 pub same-piece : (size o : ℕ) (xs ys : List ℕ) → length xs ≡ length ys → o % 512 ≡ 0
@@ -13,7 +15,8 @@ pub same-piece : (size o : ℕ) (xs ys : List ℕ) → length xs ≡ length ys �
     → take size (drop o xs) ≡ take size (drop o ys)
 same-piece size o xs ys same aligned each =
     same_lists (take size (drop o xs)) (take size (drop o ys))
-    (omega (arith, length-take size (drop o xs), length-take size (drop o ys), length-drop o xs, length-drop o ys)) (λ i d inside. (
+    (omega (arith, length-take size (drop o xs), length-take size (drop o ys), length-drop o xs, length-drop o ys))
+    (λ i d inside. (
     let below : i < size = omega (arith, length-take size (drop o xs)) in
     let short : o + i < length ys = omega (arith, length-take size (drop o xs), length-drop o xs) in
     let k = (o + i) / 512 in

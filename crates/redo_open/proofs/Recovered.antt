@@ -1,5 +1,5 @@
 -- The opening of a store that was recovered, to its exits.
-use Rattle.std.proofs.Common.{◌≡◌, ◌≤◌, ◌<◌, ◌+◌, ◌%◌, ◌^◌, ◌∙◌, ℕ, List, Option, None, Ok, Err, refl, sym, ap, subst, ⊎_elim, arith}
+use Rattle.std.proofs.Common.{◌≡◌, ◌≤◌, ◌<◌, ◌+◌, ◌%◌, ◌^◌, ◌∙◌, ℕ, List, Option, Ok, Err, refl, sym, ap, subst, ⊎_elim, arith}
 use Rattle.std.specs.Prelude.{IfErr, IfSome, IsErrOf, OnErr, OnOk, Result}
 use Rattle.std.proofs.lemmas.Bool.{cases_lt}
 use Rattle.model_base.proofs.ShapeLimits.{run_within}
@@ -98,7 +98,8 @@ recovered-none log_seen data_seen opened tail log data_device = record {
 -- THE STEPS of opening, and of taking the store to the sizes of a run.
 
 -- all of them
-pub record OpensTo (opened : Reading) (tail : Option Tail) (log_old data_old : Seen) (result : Result (Unit {0}) RecFault) (log_new data_new : Seen) : Type 0 where
+pub record OpensTo (opened : Reading) (tail : Option Tail) (log_old data_old : Seen)
+    (result : Result (Unit {0}) RecFault) (log_new data_new : Seen) : Type 0 where
   pub keeps : (log_bytes data_bytes : List ℕ) → OpensFrom opened tail log_old data_old log_bytes data_bytes
       → WhereBothTell log_new.tells data_new.tells (KeepsOpened opened)
   pub ok : (log_bytes data_bytes : List ℕ) → OpensFrom opened tail log_old data_old log_bytes data_bytes
@@ -110,8 +111,10 @@ pub record OpensTo (opened : Reading) (tail : Option Tail) (log_old data_old : S
   pub data_failed : IsErrOf result DataDev → HasRisen data_old.faults data_new.faults
 
 -- one of the first ended early
-pub failed-before : (opened : Reading) (tail : Option Tail) (log_old data_old : Seen) (fault : RecFault) (log_new data_new : Seen)
-    → DevicesStep opened tail log_old data_old (Err fault) log_new data_new → OpensTo opened tail log_old data_old (Err fault) log_new data_new
+pub failed-before : (opened : Reading) (tail : Option Tail) (log_old data_old : Seen) (fault : RecFault)
+    (log_new data_new : Seen)
+    → DevicesStep opened tail log_old data_old (Err fault) log_new data_new → OpensTo opened tail log_old data_old
+    (Err fault) log_new data_new
 failed-before opened tail log_old data_old fault log_new data_new step = record {
   keeps = step.keeps;
   ok = λ log_bytes data_bytes from. tt;
@@ -122,12 +125,17 @@ failed-before opened tail log_old data_old fault log_new data_new step = record 
 }
 
 -- they went well, and the others come after them
-pub then-run : (opened : Reading) (tail : Option Tail) (log_old data_old log_mid data_mid : Seen) (done : Unit {0}) (result : Result (Unit {0}) RecFault) (log_new data_new : Seen)
-    → DevicesStep opened tail log_old data_old (Ok done) log_mid data_mid → log_old.faults ≤ log_mid.faults → data_old.faults ≤ data_mid.faults
+pub then-run : (opened : Reading) (tail : Option Tail) (log_old data_old log_mid data_mid : Seen) (done : Unit {0})
+    (result : Result (Unit {0}) RecFault) (log_new data_new : Seen)
+    → DevicesStep opened tail log_old data_old (Ok done) log_mid data_mid → log_old.faults ≤ log_mid.faults
+    → data_old.faults ≤ data_mid.faults
     → log_mid.faults ≤ log_new.faults → data_mid.faults ≤ data_new.faults
-    → RunStep opened log_mid data_mid result log_new data_new → OpensTo opened tail log_old data_old result log_new data_new
-then-run opened tail log_old data_old log_mid data_mid done result log_new data_new first log_later data_later log_last data_last step =
-    let ready : (log_bytes data_bytes : List ℕ) → OpensFrom opened tail log_old data_old log_bytes data_bytes → IsReadyFrom opened log_mid data_mid log_bytes data_bytes =
+    → RunStep opened log_mid data_mid result log_new data_new
+    → OpensTo opened tail log_old data_old result log_new data_new
+then-run opened tail log_old data_old log_mid data_mid done result log_new data_new first log_later data_later log_last
+    data_last step =
+    let ready : (log_bytes data_bytes : List ℕ) → OpensFrom opened tail log_old data_old log_bytes data_bytes
+    → IsReadyFrom opened log_mid data_mid log_bytes data_bytes =
     λ log_bytes data_bytes from. record {
       orderly = from.orderly;
       log_fresh = first.fresh log_bytes data_bytes from;
@@ -138,8 +146,10 @@ then-run opened tail log_old data_old log_mid data_mid done result log_new data_
       ok = λ log_bytes data_bytes from. step.ok log_bytes data_bytes (ready log_bytes data_bytes from);
       unmoved = λ log_bytes data_bytes from. step.unmoved log_bytes data_bytes (ready log_bytes data_bytes from);
       fault = step.fault;
-      log_failed = λ is. risen-since log_old.faults log_mid.faults log_new.faults log_later log_last (step.log_failed is);
-      data_failed = λ is. risen-since data_old.faults data_mid.faults data_new.faults data_later data_last (step.data_failed is);
+      log_failed = λ is. risen-since log_old.faults log_mid.faults log_new.faults log_later log_last
+          (step.log_failed is);
+      data_failed = λ is. risen-since data_old.faults data_mid.faults data_new.faults data_later data_last
+          (step.data_failed is);
     }
 
 -- a step ended early
@@ -170,7 +180,8 @@ pub record IsStartable (recovered : Recovered) (start : ℕ) : Type 0 where
   pub its_pages : ArePagesOf recovered.shape recovered.pages
   pub not_ahead : AreNotAhead recovered.pages start
 
-run-opened : {L D : Type 0} (log : L) (data_device : D) (recovered : Recovered) (start : ℕ) (run : Opened L D) → IsStartable recovered start
+run-opened : {L D : Type 0} (log : L) (data_device : D) (recovered : Recovered) (start : ℕ) (run : Opened L D)
+    → IsStartable recovered start
     → IsRunOn log data_device recovered start run → IsOpenedAs (reading_of recovered) run
 run-opened log data_device recovered start run facts is = record {
   shape = is.shape;
@@ -183,7 +194,8 @@ run-opened log data_device recovered start run facts is = record {
 run-pages : (shape : Shape) (pages : List Content) → ArePagesOf shape pages → ArePagesOf (run_shape shape) pages
 run-pages shape pages its = record { count = its.count; sizes = its.sizes }
 
-run-runnable : {L D : Type 0} (log : L) (data_device : D) (recovered : Recovered) (start : ℕ) (run : Opened L D) → IsStartable recovered start
+run-runnable : {L D : Type 0} (log : L) (data_device : D) (recovered : Recovered) (start : ℕ) (run : Opened L D)
+    → IsStartable recovered start
     → IsRunOn log data_device recovered start run → IsRunnable run
 run-runnable log data_device recovered start run facts is =
     let marks = ap (λ (part : Log _). part.marks) is.log_part in
@@ -193,7 +205,8 @@ run-runnable log data_device recovered start run facts is =
       first = omega (arith, is.start_is, facts.may.started, facts.may.from);
       small = omega (arith, is.start_is, facts.may.up_to, facts.may.small, facts.may.is_layout.few_blocks);
       its_pages = subst (λ (s : Shape). ArePagesOf s run.pages) (sym is.shape)
-          (subst (ArePagesOf (run_shape recovered.shape)) (sym is.pages) (run-pages recovered.shape recovered.pages facts.its_pages));
+          (subst (ArePagesOf (run_shape recovered.shape)) (sym is.pages)
+          (run-pages recovered.shape recovered.pages facts.its_pages));
       not_ahead = subst (AreNotAhead run.pages) (sym is.start_is) (subst (λ (pages : List Content). AreNotAhead pages start) (sym is.pages) facts.not_ahead);
       log_shape = ap (λ (part : Log _). part.shape) is.log_part ∙ sym is.shape;
       log_marks = marks ∙ ap (λ n. first_marks n ((recovered.number + numbers_taken recovered.format) % 2 ^ 64)) (sym is.start_is)
@@ -213,9 +226,12 @@ number-left opened less = let few : numbers_taken opened.format ≤ 2 = few-take
     few-taken Two = omega arith
     few-taken Three = omega arith
 
-pub recovered-started : {L D : Type 0} (log_seen : L → Seen) (data_seen : D → Seen) (recovered : Recovered) (start : ℕ) (log_old data_old : Seen) (log : L) (data_device : D)
-    (result : OpenResult L D) → IsStartable recovered start → OpensTo (reading_of recovered) recovered.tail log_old data_old (Ok tt) (log_seen log) (data_seen data_device)
-    → IsStarted log data_device recovered start result → OpensRecovered log_seen data_seen (reading_of recovered) recovered.tail log_old data_old result
+pub recovered-started : {L D : Type 0} (log_seen : L → Seen) (data_seen : D → Seen) (recovered : Recovered) (start : ℕ)
+    (log_old data_old : Seen) (log : L) (data_device : D)
+    (result : OpenResult L D) → IsStartable recovered start
+    → OpensTo (reading_of recovered) recovered.tail log_old data_old (Ok tt) (log_seen log) (data_seen data_device)
+    → IsStarted log data_device recovered start result
+    → OpensRecovered log_seen data_seen (reading_of recovered) recovered.tail log_old data_old result
 recovered-started log_seen data_seen recovered start log_old data_old log data_device (Ok run) facts step is =
     let opened : Reading = reading_of recovered in
     let log_is : run.log.dev ≡ log = ap (λ (part : Log _). part.dev) is.log_part in
@@ -245,7 +261,8 @@ recovered-started log_seen data_seen recovered start log_old data_old log data_d
       log_failed = tt;
       data_failed = tt;
     }
-recovered-started log_seen data_seen recovered start log_old data_old log data_device (Err error) facts step (none, log_is, data_is) =
+recovered-started log_seen data_seen recovered start log_old data_old log data_device (Err error) facts step
+    (none, log_is, data_is) =
     let opened : Reading = reading_of recovered in
     let log_same : log_seen error.1 ≡ log_seen log = ap log_seen log_is in
     let data_same : data_seen error.2 ≡ data_seen data_device = ap data_seen data_is in

@@ -110,15 +110,15 @@ all-contents (Some l) None each = tt
 all-contents (Some l) (Some d) each = each l.reads d.reads
 
 -- a cause for which contents are refused is one for which they aren't opened
-pub also-opening : (fault : RecFault) (log data_told : Option Disk) → HasCauseIn log data_told fault → HasOpeningCauseIn log data_told fault
-also-opening fault log data_told =
-    either-cause (refusal_of fault) log data_told
-  where
-    either-cause : (cause : Option Refusal) (log data_told : Option Disk)
-        → IfSome cause (λ one. OnContents log data_told (λ log_bytes data_bytes. Refuses log_bytes data_bytes one))
-        → IfSome cause (λ one. OnContents log data_told (λ log_bytes data_bytes. RefusesToOpen log_bytes data_bytes one))
-    either-cause None log data_told known = tt
-    either-cause (Some one) log data_told known = on-contents log data_told (λ log_bytes data_bytes refuses. inl refuses) known
+also-unopened : (cause : Option Refusal) (log data_told : Option Disk)
+    → IfSome cause (λ one. OnContents log data_told (λ log_bytes data_bytes. Refuses log_bytes data_bytes one))
+    → IfSome cause (λ one. OnContents log data_told (λ log_bytes data_bytes. RefusesToOpen log_bytes data_bytes one))
+also-unopened None log data_told known = tt
+also-unopened (Some one) log data_told known = on-contents log data_told (λ log_bytes data_bytes refuses. inl refuses) known
+
+pub also-opening : (fault : RecFault) (log data_told : Option Disk) → HasCauseIn log data_told fault
+    → HasOpeningCauseIn log data_told fault
+also-opening fault = also-unopened (refusal_of fault)
 
 -- what is so anyway is so of a store that is refused
 pub also-refused : (log data_device : Seen) {P Q : Type 0} → P → Q → WhereRefused log data_device (P × Q)
@@ -130,12 +130,14 @@ pub record IsReadWithRoom (reading : Reading) (log_bytes data_bytes : List ℕ) 
   pub room : data_device_length (run_shape reading.shape) ≤ length data_bytes
 
 -- and of one that was read so anything, since it isn't refused
-with-room_not_refused : (log_bytes data_bytes : List ℕ) (reading : Reading) (refusal : Refusal) → IsReadWithRoom reading log_bytes data_bytes
+with-room_not_refused : (log_bytes data_bytes : List ℕ) (reading : Reading) (refusal : Refusal)
+    → IsReadWithRoom reading log_bytes data_bytes
     → RefusesToOpen log_bytes data_bytes refusal → ⊥
 with-room_not_refused log_bytes data_bytes reading refusal read refused =
     ⊎_elim (λ refuses. read-not_refused one_group log_bytes data_bytes reading refusal read.is_read refuses)
     (λ none. (
-    let same : none.reading ≡ reading = same_reading one_group log_bytes data_bytes none.reading reading none.is_read read.is_read in
+    let same : none.reading ≡ reading = same_reading one_group log_bytes data_bytes none.reading reading none.is_read
+    read.is_read in
     let short : length data_bytes < data_device_length (run_shape reading.shape) =
     subst (λ (r : Reading). length data_bytes < data_device_length (run_shape r.shape)) same none.short in
     absurd (omega (arith, short, read.room)))) refused
@@ -144,14 +146,18 @@ pub read-unrefused : (log data_device : Seen) (P : Type 0) (reading : Reading)
     → OnContents log.tells data_device.tells (IsReadWithRoom reading) → WhereRefused log data_device P
 read-unrefused log data_device P reading reads refusal =
     on-contents log.tells data_device.tells
-    (λ log_bytes data_bytes read refused. absurd (with-room_not_refused log_bytes data_bytes reading refusal read refused)) reads
+    (λ log_bytes data_bytes read refused. absurd
+    (with-room_not_refused log_bytes data_bytes reading refusal read refused)) reads
 
 -- a device of that size has it
-pub read-roomy : (log data_told : Option Disk) (size : ℕ) (reading : Reading) → data_device_length (run_shape reading.shape) ≤ size → IfSome data_told (HasSize size)
-    → OnContents log data_told (λ log_bytes data_bytes. IsReading log_bytes data_bytes reading) → OnContents log data_told (IsReadWithRoom reading)
+pub read-roomy : (log data_told : Option Disk) (size : ℕ) (reading : Reading)
+    → data_device_length (run_shape reading.shape) ≤ size → IfSome data_told (HasSize size)
+    → OnContents log data_told (λ log_bytes data_bytes. IsReading log_bytes data_bytes reading)
+    → OnContents log data_told (IsReadWithRoom reading)
 read-roomy None data_told size reading room sized reads = tt
 read-roomy (Some l) None size reading room sized reads = tt
-read-roomy (Some l) (Some d) size reading room sized reads = record { is_read = reads; room = omega (arith, sized.reads, room) }
+read-roomy (Some l) (Some d) size reading room sized reads =
+    record { is_read = reads; room = omega (arith, sized.reads, room) }
 
 -- A STORE THAT HAS NO ROOM for a run.
 
@@ -161,15 +167,19 @@ pub record IsReadWithSize (reading : Reading) (size : ℕ) (log_bytes data_bytes
   pub sized : length data_bytes ≡ size
 
 pub read-sized : (log data_told : Option Disk) (size : ℕ) (reading : Reading) → IfSome data_told (HasSize size)
-    → OnContents log data_told (λ log_bytes data_bytes. IsReading log_bytes data_bytes reading) → OnContents log data_told (IsReadWithSize reading size)
+    → OnContents log data_told (λ log_bytes data_bytes. IsReading log_bytes data_bytes reading)
+    → OnContents log data_told (IsReadWithSize reading size)
 read-sized None data_told size reading sized reads = tt
 read-sized (Some l) None size reading sized reads = tt
 read-sized (Some l) (Some d) size reading sized reads = record { is_read = reads; sized = sized.reads }
 
-short-cause : (log data_device log_after data_after : Seen) (n : ℕ) (reading : Reading) → data_device.size < data_device_length (run_shape reading.shape)
+short-cause : (log data_device log_after data_after : Seen) (n : ℕ) (reading : Reading)
+    → data_device.size < data_device_length (run_shape reading.shape)
     → n ≡ data_device_length (run_shape reading.shape)
-    → WhereStillTold log_after.tells data_after.tells (OnContents log.tells data_device.tells (IsReadWithSize reading data_device.size))
-    → IsUnchanged log log_after → IsUnchanged data_device data_after → HasFaultCause log data_device log_after data_after (SmallData n)
+    → WhereStillTold log_after.tells data_after.tells
+    (OnContents log.tells data_device.tells (IsReadWithSize reading data_device.size))
+    → IsUnchanged log log_after → IsUnchanged data_device data_after
+    → HasFaultCause log data_device log_after data_after (SmallData n)
 short-cause log data_device log_after data_after n reading short n_is reads log_same data_same = record {
   refused = λ log_still data_still. on-contents log.tells data_device.tells
       (λ log_bytes data_bytes read. inr (record {
@@ -185,13 +195,17 @@ short-cause log data_device log_after data_after n reading short n_is reads log_
 }
 
 -- the log device is as long as the store's own shape asks, and so as that of a run
-pub room-cause : (log data_device log_after data_after : Seen) (fault : RecFault) (reading : Reading) → log_device_length reading.shape ≤ log.size
+pub room-cause : (log data_device log_after data_after : Seen) (fault : RecFault) (reading : Reading)
+    → log_device_length reading.shape ≤ log.size
     → IsLengthFault (run_shape reading.shape) log.size data_device.size fault
-    → WhereStillTold log_after.tells data_after.tells (OnContents log.tells data_device.tells (IsReadWithSize reading data_device.size))
-    → IsUnchanged log log_after → IsUnchanged data_device data_after → HasFaultCause log data_device log_after data_after fault
+    → WhereStillTold log_after.tells data_after.tells
+    (OnContents log.tells data_device.tells (IsReadWithSize reading data_device.size))
+    → IsUnchanged log log_after → IsUnchanged data_device data_after
+    → HasFaultCause log data_device log_after data_after fault
 room-cause log data_device log_after data_after (SmallData n) reading long is reads log_same data_same =
     short-cause log data_device log_after data_after n reading is.1 is.2 reads log_same data_same
-room-cause log data_device log_after data_after (SmallLog n) reading long is reads log_same data_same = absurd (omega (arith, long, is.0))
+room-cause log data_device log_after data_after (SmallLog n) reading long is reads log_same data_same = absurd
+    (omega (arith, long, is.0))
 room-cause log data_device log_after data_after NotFormatted reading long is reads log_same data_same = absurd is
 room-cause log data_device log_after data_after (BadFormat n) reading long is reads log_same data_same = absurd is
 room-cause log data_device log_after data_after NoCheckpoint reading long is reads log_same data_same = absurd is
@@ -203,7 +217,8 @@ room-cause log data_device log_after data_after DataDev reading long is reads lo
 room-cause log data_device log_after data_after NoMemory reading long is reads log_same data_same = absurd is
 
 -- such a fault is none of a device's calls
-pub length-ends : (shape : Shape) (log_size data_size : ℕ) (fault : RecFault) → IsLengthFault shape log_size data_size fault
+pub length-ends : (shape : Shape) (log_size data_size : ℕ) (fault : RecFault)
+    → IsLengthFault shape log_size data_size fault
     → (log_error fault ≡ None) × (data_error fault ≡ None)
 length-ends shape log_size data_size (SmallData n) is = (refl, refl)
 length-ends shape log_size data_size (SmallLog n) is = (refl, refl)

@@ -57,8 +57,10 @@ pub record OpensFrom (opened : Reading) (tail : Option Tail) (log data_device : 
 abbrev pub IsFreshLog : Reading → Disk → Type 0
 IsFreshLog opened disk = IsFresh opened.shape (start_of opened) (opened.number + numbers_taken opened.format) disk
 
--- At each exit whatever a crash leaves is read with the opened pages, and after Ok each device is ready by the store's own sizes;
--- where both devices told at first a store that is in order. Until then what stands on the log device tells that it isn't opened.
+-- At each exit whatever a crash leaves is read with the opened pages, and after Ok each device is ready by the store's
+-- own sizes;
+-- where both devices told at first a store that is in order. Until then what stands on the log device tells that it
+-- isn't opened.
 pub record DevicesStep (opened : Reading) (tail : Option Tail) (log_old data_old : Seen) (result : Result (Unit {0}) RecFault) (log_new data_new : Seen) : Type 0 where
   pub keeps : (log_bytes data_bytes : List ℕ) → OpensFrom opened tail log_old data_old log_bytes data_bytes
       → WhereBothTell log_new.tells data_new.tells (KeepsOpened opened)

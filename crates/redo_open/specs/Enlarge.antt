@@ -29,7 +29,8 @@ pub record IsPlaceText (shape : Shape) (page : ℕ) (content : Content) (text : 
   pub user : content.user ≡ user_part text
 
 -- such bytes are written into the place of the page
-pub record WritesPlace (shape : Shape) (page : ℕ) (content : Content) (old : Seen) (result : Result (Unit {0}) DevError) (new : Seen) : Type 0 where
+pub record WritesPlace (shape : Shape) (page : ℕ) (content : Content) (old : Seen) (result : Result (Unit {0}) DevError)
+    (new : Seen) : Type 0 where
   pub text : List ℕ
   pub is_text : IsPlaceText shape page content text
   pub step : WriteStep (write_at (place_at shape page) text) old result new
@@ -45,9 +46,13 @@ pub record HasEnlarged (shape : Shape) (pages : List Content) (content : List �
   pub enlarged : IsEnlarged shape (λ p. get_or pages p (blank_page shape)) content disk.base
 
 -- The step, on a device on which nothing is pending.
-pub record EnlargeStep (shape : Shape) (pages : List Content) (old : Seen) (result : Result (Unit {0}) DevError) (new : Seen) : Type 0 where
-  pub keeps : OnTold old.tells new.tells (λ before after. before ≡ settled before.base → KeepsOld shape before.base after)
-  pub ok : OnOk result (OnTold old.tells new.tells (λ before after. before ≡ settled before.base → HasEnlarged shape pages before.base after))
+pub record EnlargeStep (shape : Shape) (pages : List Content) (old : Seen) (result : Result (Unit {0}) DevError)
+    (new : Seen) : Type 0 where
+  pub keeps : OnTold old.tells new.tells (λ before after. before ≡ settled before.base
+      → KeepsOld shape before.base after)
+  pub ok : OnOk result
+      (OnTold old.tells new.tells (λ before after. before ≡ settled before.base
+      → HasEnlarged shape pages before.base after))
   pub size : new.size ≡ old.size
   pub cause : HasCause old.faults new.faults result
 
@@ -64,9 +69,13 @@ pub record HasRunHeads (shape : Shape) (content : List ℕ) (disk : Disk) : Type
 
 -- The step, on a device that is at rest. Where it fails, the first header block is as it was at the last good sync.
 pub record HeadStep (shape : Shape) (old : Seen) (result : Result (Unit {0}) DevError) (new : Seen) : Type 0 where
-  pub keeps : OnTold old.tells new.tells (λ before after. IsAtRestTo HEADS before → PutsRunHeads shape before.reads after)
-  pub ok : OnOk result (OnTold old.tells new.tells (λ before after. IsAtRestTo HEADS before → HasRunHeads shape before.reads after))
-  pub unmoved : OnErr result (OnTold old.tells new.tells (λ before after. IsAtRestTo HEADS before → sector 0 after.base ≡ sector 0 before.reads))
+  pub keeps : OnTold old.tells new.tells (λ before after. IsAtRestTo HEADS before
+      → PutsRunHeads shape before.reads after)
+  pub ok : OnOk result
+      (OnTold old.tells new.tells (λ before after. IsAtRestTo HEADS before → HasRunHeads shape before.reads after))
+  pub unmoved : OnErr result
+      (OnTold old.tells new.tells (λ before after. IsAtRestTo HEADS before
+      → sector 0 after.base ≡ sector 0 before.reads))
   pub size : new.size ≡ old.size
   pub cause : HasCause old.faults new.faults result
 
@@ -78,9 +87,11 @@ pub record IsReadyFrom (opened : Reading) (log data_device : Seen) (log_bytes da
   pub log_fresh : IfSome log.tells (IsFreshLog opened)
   pub data_stored : IfSome data_device.tells (HoldsPlaces opened.shape opened)
 
--- At each exit whatever a crash leaves is read with the opened pages, and after Ok a run can start. Until then what stands on
+-- At each exit whatever a crash leaves is read with the opened pages, and after Ok a run can start. Until then what
+-- stands on
 -- the log device tells that the store isn't opened.
-pub record RunStep (opened : Reading) (log_old data_old : Seen) (result : Result (Unit {0}) RecFault) (log_new data_new : Seen) : Type 0 where
+pub record RunStep (opened : Reading) (log_old data_old : Seen) (result : Result (Unit {0}) RecFault)
+    (log_new data_new : Seen) : Type 0 where
   pub keeps : (log_bytes data_bytes : List ℕ) → IsReadyFrom opened log_old data_old log_bytes data_bytes
       → WhereBothTell log_new.tells data_new.tells (KeepsOpened opened)
   pub ok : (log_bytes data_bytes : List ℕ) → IsReadyFrom opened log_old data_old log_bytes data_bytes

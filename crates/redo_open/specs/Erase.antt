@@ -17,7 +17,8 @@ pub record Reaches (end : ℕ) (disk : Disk) : Type 0 where
   pub reads : end ≤ length disk.reads
 
 -- In a sector of a fair image may stand what might have stood there before, or, in one of the stretch, bytes of which
--- nothing is read. What stood there at the last good sync is as it was, no write covers another sector that none covered
+-- nothing is read. What stood there at the last good sync is as it was, no write covers another sector that none
+-- covered
 -- before, and where all writes were of whole sectors they still are.
 pub record Erases (from end : ℕ) (old new : Disk) : Type 0 where
   pub base : new.base ≡ old.base

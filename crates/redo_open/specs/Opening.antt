@@ -81,11 +81,19 @@ pub record HasFaultCause (log data_device log_after data_after : Seen) (fault : 
   pub data_failed : fault ≡ DataDev → HasRisen data_device.faults data_after.faults
 
 -- A run was started on both devices, with the shape that it has, or memory ran out and they are handed back.
-pub record IsRunOn {L D : Type 0} (log : L) (data_device : D) (recovered : Recovered) (start : ℕ) (opened : Opened L D) : Type 0 where
+pub record IsRunOn {L D : Type 0} (log : L) (data_device : D) (recovered : Recovered) (start : ℕ)
+    (opened : Opened L D) : Type 0 where
   pub shape : opened.shape ≡ run_shape recovered.shape
   pub start_is : opened.start ≡ start
   pub pages : opened.pages ≡ recovered.pages
-  pub log_part : opened.log ≡ record { dev = log; shape = run_shape recovered.shape; marks = first_marks start ((recovered.number + numbers_taken recovered.format) % 2 ^ 64); tails = first_tails start; failed = None }
+  pub log_part : opened.log ≡ record {
+    dev = log;
+    shape = run_shape recovered.shape;
+    marks = first_marks start
+        ((recovered.number + numbers_taken recovered.format) % 2 ^ 64);
+    tails = first_tails start;
+    failed = None;
+  }
   pub data_part : opened.store ≡ record { dev = data_device; shape = run_shape recovered.shape; failed = None }
 
 abbrev pub IsStarted : {L D : Type 0} → L → D → Recovered → ℕ → OpenResult L D → Type 0

@@ -15,5 +15,6 @@ invariant-loop-page g l = record {
   later : (g.D.Sectors.seen l.fn.device).faults ≤ (g.D.Sectors.seen l.device).faults;
   told : OnTold (g.D.Sectors.seen l.fn.device).tells (g.D.Sectors.seen l.device).tells
       (λ old new. IsSettledData (run_shape l.shape) old → IsGrown l.shape l.pages l.page old new);
-  calls : MakesCalls g.D.Sectors.gives l.fn.device l.device (PutsWhere (IsWithin (data_device_length (run_shape l.shape))) None);
+  calls : MakesCalls g.D.Sectors.gives l.fn.device l.device
+      (PutsWhere (IsWithin (data_device_length (run_shape l.shape))) None);
 }

@@ -1,5 +1,5 @@
 -- Zeros, or the text of the page, which is a batch of one.
-use Rattle.std.proofs.Common.{◌≡◌, length, sym, subst, ◌∙◌, arith}
+use Rattle.std.proofs.Common.{sym, subst, ◌∙◌, arith}
 use Rattle.model_page.specs.declared.content.Content.{Content}
 use Rattle.model_parts.specs.{Fresh, IsFreshPage}
 use Rattle.redo_open.proofs.Texts.{blank-is, fresh-text, one-text, zeros-are, zeros-text}
@@ -20,6 +20,13 @@ returns c =
     let user = c.args.user.now in
     let text = c.fill_texts.new.out in
     let new : Fresh = record { page = c.args.page; content = record { lsn = c.args.lsn; user = user } } in
-    let fresh : IsFreshPage shape new = record { below = c.requires.page; small_lsn = omega arith; long = c.requires.user; bytes = λ i. omega (arith, c.type_inv.user i) } in
+    let fresh : IsFreshPage shape new = record {
+      below = c.requires.page;
+      small_lsn = omega arith;
+      long =
+          c.requires.user;
+      bytes = λ i. omega (arith, c.type_inv.user i);
+    } in
     fresh-text shape new text c.requires.limits fresh
-    (one-text shape c.args.page c.args.lsn user text c.requires.user (omega (arith, c.requires.size)) c.fill_texts.ensures.texts)
+    (one-text shape c.args.page c.args.lsn user text c.requires.user (omega (arith, c.requires.size))
+    c.fill_texts.ensures.texts)

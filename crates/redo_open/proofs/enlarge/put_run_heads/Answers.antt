@@ -11,7 +11,9 @@ returns-in_err-put_head-clause-step g c =
     let shape = c.args.shape.now in
     let old = g.L.Sectors.seen c.args.log.now in
     let new = g.L.Sectors.seen c.put_head.new.log in
-    rw (p.1, p.2) (second-fails shape old c.in_err-put_head.field-0.0 new (run-put shape c.run_shape-run.result 2 old _ new c.run_shape-run.ensures.shape c.in_err-put_head.ensures.step))
+    rw (p.1, p.2)
+    (second-fails shape old c.in_err-put_head.field-0.0 new
+    (run-put shape c.run_shape-run.result 2 old _ new c.run_shape-run.ensures.shape c.in_err-put_head.ensures.step))
 
 pub returns-in_err-put_head-clause-calls : goal.returns-in_err-put_head-clause-calls
 returns-in_err-put_head-clause-calls g c =
@@ -25,8 +27,10 @@ returns-clause-step g c =
     let mid = g.L.Sectors.seen c.put_head.new.log in
     let new = g.L.Sectors.seen c.put_head-2.new.log in
     first-ends shape old mid c.put_head-2.result new
-    (second-come shape old tt mid (run-put shape c.run_shape-run.result 2 old _ mid c.run_shape-run.ensures.shape c.in_ok-put_head.ensures.step))
-    (run-put shape c.run_shape-run.result 0 mid c.put_head-2.result new c.run_shape-run.ensures.shape c.put_head-2.ensures.step)
+    (second-come shape old tt mid
+    (run-put shape c.run_shape-run.result 2 old _ mid c.run_shape-run.ensures.shape c.in_ok-put_head.ensures.step))
+    (run-put shape c.run_shape-run.result 0 mid c.put_head-2.result new c.run_shape-run.ensures.shape
+    c.put_head-2.ensures.step)
 
 pub returns-clause-calls : goal.returns-clause-calls
 returns-clause-calls g c =

@@ -34,15 +34,19 @@ use Rattle.redo_recover.specs.declared.fault.RecFault.{RecFault}
 use Rattle.redo_open.proofs.opening.open_store.Goals as goal
 
 -- a cause that is told of what was read is one of what the devices told at entry
-cause-same : (fault : RecFault) (log log_new data_told data_new : Option Disk) → log_new ≡ log → data_new ≡ data_told → HasCauseIn log_new data_new fault
+cause-same : (fault : RecFault) (log log_new data_told data_new : Option Disk) → log_new ≡ log → data_new ≡ data_told
+    → HasCauseIn log_new data_new fault
     → HasOpeningCauseIn log data_told fault
 cause-same fault log log_new data_told data_new log_same data_same cause =
     subst (λ (told : Option Disk). HasOpeningCauseIn log told fault) data_same
-    (subst (λ (told : Option Disk). HasOpeningCauseIn told data_new fault) log_same (also-opening fault log_new data_new cause))
+    (subst (λ (told : Option Disk). HasOpeningCauseIn told data_new fault) log_same
+    (also-opening fault log_new data_new cause))
 
 -- the room was judged on a device of this size
-had-room : {shape run : Shape} {len now size : ℕ} → run ≡ run_shape shape → len ≡ now → data_device_length run ≤ len → now ≡ size → data_device_length (run_shape shape) ≤ size
-had-room {size = size} run_is len_is room same = subst (λ (s : Shape). data_device_length s ≤ size) run_is (omega (arith, room, len_is, same))
+had-room : (shape : Shape) {run : Shape} {len now size : ℕ} → run ≡ run_shape shape → len ≡ now
+    → data_device_length run ≤ len → now ≡ size → data_device_length (run_shape shape) ≤ size
+had-room shape {size = size} run_is len_is room same = subst (λ (s : Shape). data_device_length s ≤ size) run_is
+    (omega (arith, room, len_is, same))
 
 -- the header blocks lie within every store
 heads_inside : {L : Type 0} {gives : L → Call → L → Type 0} {old new : L} {error : Option DevError} {format : Format} {named : Shape} (shape : Shape)
@@ -218,25 +222,32 @@ returns-in-Err-clause-cause g c = record {
 }
 
 -- what the code judged is what the devices have
-judged : (shape run : Shape) (fault : RecFault) (log_len data_len log_size data_size : ℕ) → run ≡ run_shape shape → log_len ≡ log_size → data_len ≡ data_size
+judged : (shape run : Shape) (fault : RecFault) (log_len data_len log_size data_size : ℕ) → run ≡ run_shape shape
+    → log_len ≡ log_size → data_len ≡ data_size
     → IsLengthFault run log_len data_len fault → IsLengthFault (run_shape shape) log_size data_size fault
 judged shape run fault log_len data_len log_size data_size run_is log_is data_is is =
     subst (λ (s : Shape). IsLengthFault s log_size data_size fault) run_is
-    (subst (λ n. IsLengthFault run n data_size fault) log_is (subst (λ n. IsLengthFault run log_len n fault) data_is is))
+    (subst (λ n. IsLengthFault run n data_size fault) log_is
+    (subst (λ n. IsLengthFault run log_len n fault) data_is is))
 
 pub returns-in-Err-check_lengths-clause-cause : goal.returns-in-Err-check_lengths-clause-cause
 returns-in-Err-check_lengths-clause-cause g c =
     let recovered = c.in-Ok.recovered in
     let log = g.L.Sectors.seen c.args.log in
     let data_device = g.D.Sectors.seen c.args.data_device in
-    room-cause log data_device (g.L.Sectors.seen c.recover.new.log) (g.D.Sectors.seen c.recover.new.data_device) c.in-Err-check_lengths.fault (reading_of recovered)
+    room-cause log data_device (g.L.Sectors.seen c.recover.new.log) (g.D.Sectors.seen c.recover.new.data_device)
+    c.in-Err-check_lengths.fault (reading_of recovered)
     c.in-Ok.ensures.recovered.of_devices.usable.log_long
-    (judged recovered.shape c.run_shape.result c.in-Err-check_lengths.fault c.len.result c.len-2.result log.size data_device.size c.run_shape.ensures.shape
-    (c.len.ensures.size ∙ c.in-Ok.ensures.log.unchanged.size) (c.len-2.ensures.size ∙ c.in-Ok.ensures.data_device.unchanged.size) c.in-Err-check_lengths.ensures.fault)
+    (judged recovered.shape c.run_shape.result c.in-Err-check_lengths.fault c.len.result c.len-2.result log.size
+    data_device.size c.run_shape.ensures.shape
+    (c.len.ensures.size ∙ c.in-Ok.ensures.log.unchanged.size)
+    (c.len-2.ensures.size ∙ c.in-Ok.ensures.data_device.unchanged.size) c.in-Err-check_lengths.ensures.fault)
     (λ log_still data_still.
     contents-same (IsReadWithSize (reading_of recovered) data_device.size) _ _ _ _
-    (still-equal _ _ c.in-Ok.ensures.log.unchanged.tells log_still) (still-equal _ _ c.in-Ok.ensures.data_device.unchanged.tells data_still)
-    (read-sized _ _ data_device.size (reading_of recovered) c.in-Ok.ensures.recovered.sized c.in-Ok.ensures.recovered.read))
+    (still-equal _ _ c.in-Ok.ensures.log.unchanged.tells log_still)
+    (still-equal _ _ c.in-Ok.ensures.data_device.unchanged.tells data_still)
+    (read-sized _ _ data_device.size (reading_of recovered) c.in-Ok.ensures.recovered.sized
+    c.in-Ok.ensures.recovered.read))
     c.in-Ok.ensures.log.unchanged c.in-Ok.ensures.data_device.unchanged
 
 pub returns-in-Err-read_heads-clause-cause : goal.returns-in-Err-read_heads-clause-cause
@@ -245,9 +256,12 @@ returns-in-Err-read_heads-clause-cause g c =
     heads-cause (g.L.Sectors.seen c.args.log) (g.D.Sectors.seen c.args.data_device)
     (g.L.Sectors.seen c.read_heads.new.log) (g.D.Sectors.seen c.recover.new.data_device)
     c.in-Err-read_heads.error c.log_fault.result (reading_of c.in-Ok.recovered) c.log_fault.ensures
-    (λ log_on data_on. contents-back (IsReadWithRoom (reading_of c.in-Ok.recovered)) _ _ _ _ _ c.in-Ok.ensures.log.unchanged.tells
+    (λ log_on data_on. contents-back (IsReadWithRoom (reading_of c.in-Ok.recovered)) _ _ _ _ _
+    c.in-Ok.ensures.log.unchanged.tells
     c.in-Err-read_heads.ensures.reads.unchanged.tells c.in-Ok.ensures.data_device.unchanged.tells log_on data_on
-    (read-roomy _ _ (g.D.Sectors.seen c.args.data_device).size (reading_of c.in-Ok.recovered) (had-room c.run_shape.ensures.shape c.len-2.ensures.size c.in-Ok-check_lengths.ensures.fit.1 c.in-Ok.ensures.data_device.unchanged.size) c.in-Ok.ensures.recovered.sized c.in-Ok.ensures.recovered.read))
+    (read-roomy _ _ (g.D.Sectors.seen c.args.data_device).size (reading_of c.in-Ok.recovered)
+    (had-room c.in-Ok.recovered.shape c.run_shape.ensures.shape c.len-2.ensures.size c.in-Ok-check_lengths.ensures.fit.1
+    c.in-Ok.ensures.data_device.unchanged.size) c.in-Ok.ensures.recovered.sized c.in-Ok.ensures.recovered.read))
     (record { later = read.unchanged.later; failed = λ is. read.failed (ap (λ (result : Result (Unit {0}) DevError). error_of result) is) })
 
 pub returns-in-Err-sync-clause-cause : goal.returns-in-Err-sync-clause-cause
@@ -262,7 +276,9 @@ returns-in-Err-sync-clause-cause g c =
     let log_told = same-back _ _ c.in-Err-sync.ensures.step.err log_on in
     contents-back (IsReadWithRoom (reading_of c.in-Ok.recovered)) _ _ _ _ _ c.in-Ok.ensures.log.unchanged.tells
     c.in-Ok-read_heads.ensures.reads.unchanged.tells c.in-Ok.ensures.data_device.unchanged.tells log_told data_told
-    (read-roomy _ _ (g.D.Sectors.seen c.args.data_device).size (reading_of c.in-Ok.recovered) (had-room c.run_shape.ensures.shape c.len-2.ensures.size c.in-Ok-check_lengths.ensures.fit.1 c.in-Ok.ensures.data_device.unchanged.size) c.in-Ok.ensures.recovered.sized c.in-Ok.ensures.recovered.read))
+    (read-roomy _ _ (g.D.Sectors.seen c.args.data_device).size (reading_of c.in-Ok.recovered)
+    (had-room c.in-Ok.recovered.shape c.run_shape.ensures.shape c.len-2.ensures.size c.in-Ok-check_lengths.ensures.fit.1
+    c.in-Ok.ensures.data_device.unchanged.size) c.in-Ok.ensures.recovered.sized c.in-Ok.ensures.recovered.read))
     (cause-since _ _ _ (Err c.in-Err-sync.error) (omega (arith, recovery, read)) c.in-Err-sync.ensures.step.cause)
 
 pub returns-in-Err-sync-2-clause-cause : goal.returns-in-Err-sync-2-clause-cause
@@ -275,7 +291,9 @@ returns-in-Err-sync-2-clause-cause g c =
     let data_told = same-back _ _ c.in-Err-sync-2.ensures.step.err data_on in
     contents-back (IsReadWithRoom (reading_of c.in-Ok.recovered)) _ _ _ _ _ c.in-Ok.ensures.log.unchanged.tells
     c.in-Ok-read_heads.ensures.reads.unchanged.tells c.in-Ok.ensures.data_device.unchanged.tells log_told data_told
-    (read-roomy _ _ (g.D.Sectors.seen c.args.data_device).size (reading_of c.in-Ok.recovered) (had-room c.run_shape.ensures.shape c.len-2.ensures.size c.in-Ok-check_lengths.ensures.fit.1 c.in-Ok.ensures.data_device.unchanged.size) c.in-Ok.ensures.recovered.sized c.in-Ok.ensures.recovered.read))
+    (read-roomy _ _ (g.D.Sectors.seen c.args.data_device).size (reading_of c.in-Ok.recovered)
+    (had-room c.in-Ok.recovered.shape c.run_shape.ensures.shape c.len-2.ensures.size c.in-Ok-check_lengths.ensures.fit.1
+    c.in-Ok.ensures.data_device.unchanged.size) c.in-Ok.ensures.recovered.sized c.in-Ok.ensures.recovered.read))
     (cause-since _ _ _ (Err c.in-Err-sync-2.error) c.in-Ok.ensures.data_device.unchanged.later
     c.in-Err-sync-2.ensures.step.cause)
 
@@ -294,7 +312,9 @@ returns-in-Err-make_alike-clause-cause g c =
     let data_told = told-back _ _ _ c.in-Ok-sync-2.ensures.step.ok data_on in
     contents-back (IsReadWithRoom (reading_of c.in-Ok.recovered)) _ _ _ _ _ c.in-Ok.ensures.log.unchanged.tells
     c.in-Ok-read_heads.ensures.reads.unchanged.tells c.in-Ok.ensures.data_device.unchanged.tells log_told data_told
-    (read-roomy _ _ (g.D.Sectors.seen c.args.data_device).size (reading_of c.in-Ok.recovered) (had-room c.run_shape.ensures.shape c.len-2.ensures.size c.in-Ok-check_lengths.ensures.fit.1 c.in-Ok.ensures.data_device.unchanged.size) c.in-Ok.ensures.recovered.sized c.in-Ok.ensures.recovered.read))
+    (read-roomy _ _ (g.D.Sectors.seen c.args.data_device).size (reading_of c.in-Ok.recovered)
+    (had-room c.in-Ok.recovered.shape c.run_shape.ensures.shape c.len-2.ensures.size c.in-Ok-check_lengths.ensures.fit.1
+    c.in-Ok.ensures.data_device.unchanged.size) c.in-Ok.ensures.recovered.sized c.in-Ok.ensures.recovered.read))
     (cause-since _ _ _ (Err c.in-Err-make_alike.error) (omega (arith, recovery, read, synced))
     c.in-Err-make_alike.ensures.step.cause)
 
@@ -315,7 +335,9 @@ returns-clause-cause g c =
     let data_told = told-back _ _ _ c.in-Ok-sync-2.ensures.step.ok data_left in
     contents-back (IsReadWithRoom (reading_of c.in-Ok.recovered)) _ _ _ _ _ c.in-Ok.ensures.log.unchanged.tells
     c.in-Ok-read_heads.ensures.reads.unchanged.tells c.in-Ok.ensures.data_device.unchanged.tells log_told data_told
-    (read-roomy _ _ (g.D.Sectors.seen c.args.data_device).size (reading_of c.in-Ok.recovered) (had-room c.run_shape.ensures.shape c.len-2.ensures.size c.in-Ok-check_lengths.ensures.fit.1 c.in-Ok.ensures.data_device.unchanged.size) c.in-Ok.ensures.recovered.sized c.in-Ok.ensures.recovered.read))
+    (read-roomy _ _ (g.D.Sectors.seen c.args.data_device).size (reading_of c.in-Ok.recovered)
+    (had-room c.in-Ok.recovered.shape c.run_shape.ensures.shape c.len-2.ensures.size c.in-Ok-check_lengths.ensures.fit.1
+    c.in-Ok.ensures.data_device.unchanged.size) c.in-Ok.ensures.recovered.sized c.in-Ok.ensures.recovered.read))
     (omega (
       arith,
       c.in-Ok.ensures.log.unchanged.later,
@@ -346,10 +368,17 @@ returns-in-Err-check_lengths-clause-called g c =
     let none = length-ends c.run_shape.result c.len.result c.len-2.result fault c.in-Err-check_lengths.ensures.fault in
     record {
       log = record { size = c.in-Ok.ensures.log.unchanged.size; later = c.in-Ok.ensures.log.unchanged.later };
-      data_device = record { size = c.in-Ok.ensures.data_device.unchanged.size; later = c.in-Ok.ensures.data_device.unchanged.later };
-      log_calls = subst (λ (error : Option DevError). MakesCalls g.L.Sectors.gives c.args.log c.recover.new.log (OpensLog (g.L.Sectors.seen c.args.log).size error)) (sym none.0)
+      data_device = record {
+        size = c.in-Ok.ensures.data_device.unchanged.size;
+        later =
+            c.in-Ok.ensures.data_device.unchanged.later;
+      };
+      log_calls = subst (λ (error : Option DevError). MakesCalls g.L.Sectors.gives c.args.log c.recover.new.log
+          (OpensLog (g.L.Sectors.seen c.args.log).size error)) (sym none.0)
           (opens_log c.in-Ok.ensures.log.calls);
-      data_calls = subst (λ (error : Option DevError). MakesCalls g.D.Sectors.gives c.args.data_device c.recover.new.data_device (MayEndWith error)) (sym none.1)
+      data_calls = subst
+          (λ (error : Option DevError). MakesCalls g.D.Sectors.gives c.args.data_device c.recover.new.data_device
+          (MayEndWith error)) (sym none.1)
           (reads_end c.in-Ok.ensures.data_device.calls);
     }
 
@@ -469,7 +498,8 @@ returns-in-Err-clause-inside g c =
 
 pub returns-in-Err-check_lengths-clause-inside : goal.returns-in-Err-check_lengths-clause-inside
 returns-in-Err-check_lengths-clause-inside g c =
-    unopened-inside g.L.Sectors.gives g.D.Sectors.gives (g.L.Sectors.seen c.args.log).tells (g.D.Sectors.seen c.args.data_device).tells _ _ c.args.log c.args.data_device
+    unopened-inside g.L.Sectors.gives g.D.Sectors.gives (g.L.Sectors.seen c.args.log).tells
+    (g.D.Sectors.seen c.args.data_device).tells _ _ c.args.log c.args.data_device
     (c.in-Err-check_lengths.fault, c.recover.new.log, c.recover.new.data_device)
     (λ shape. record {
       log_read = c.recover.new.log;
