@@ -1,5 +1,5 @@
 -- The calls of both devices, as they end.
-use Rattle.std.proofs.Common.{◌≡◌, ℕ, Option, Some, None, Ok, Err, sym, ap, subst, arith, length-append}
+use Rattle.std.proofs.Common.{◌≡◌, ◌∙◌, ℕ, Option, Some, None, Ok, Err, sym, ap, subst, arith, length-append}
 use Rattle.redo_disk.specs.{Call, EndWith, MakesCalls, MayEndWith, ReadsMayEndWith}
 use Rattle.redo_disk.specs.declared.error.DevError.{DevError}
 use Rattle.redo_disk.specs.declared.error.DevError.TheVariants as device
@@ -47,46 +47,77 @@ beside_pages NoMemory own made = out_of_memory made
 beside_pages _ own made = absurd own
 
 -- a run that was started makes no call
-started_log : {L D : Type 0} {gives : L → Call → L → Type 0} {old log : L} (store : Part D) (recovered : Recovered) (start : ℕ) (result : OpenResult L D)
-    → IsStarted log store recovered start result → MakesCalls gives old log (MayEndWith None) → MakesCalls gives old (log_device_left result) (MayEndWith (log_error_in result))
-started_log {gives = gives} {old = old} store recovered start (Ok run) is made =
+started_log : {L D : Type 0} {gives : L → Call → L → Type 0} {old log : L} (data_device : D) (recovered : Recovered)
+    (start : ℕ) (result : OpenResult L D)
+    → IsStarted log data_device recovered start result → MakesCalls gives old log (MayEndWith None)
+    → MakesCalls gives old (log_device_left result) (MayEndWith (log_error_in result))
+started_log {gives = gives} {old = old} data_device recovered start (Ok run) is made =
     subst (λ dev. MakesCalls gives old dev (MayEndWith None)) (sym (ap (λ (part : Log _). part.dev) is.log_part)) made
-started_log {gives = gives} {old = old} store recovered start (Err error) (none, log_is, data_is) made =
+started_log {gives = gives} {old = old} data_device recovered start (Err error) (none, log_is, data_is) made =
     subst (λ (f : RecFault). MakesCalls gives old error.1 (MayEndWith (log_error f))) (sym none)
     (subst (λ dev. MakesCalls gives old dev (MayEndWith (Some device.NoMemory))) (sym log_is) (out_of_memory made))
 
-started_data : {L D : Type 0} {gives : D → Call → D → Type 0} {old : D} (log : L) (store : Part D) (recovered : Recovered) (start : ℕ) (result : OpenResult L D)
-    → IsStarted log store recovered start result → MakesCalls gives old store.dev (MayEndWith None) → MakesCalls gives old (data_device_left result) (MayEndWith (data_error_in result))
-started_data {gives = gives} {old = old} log store recovered start (Ok run) is made =
+started_data : {L D : Type 0} {gives : D → Call → D → Type 0} {old : D} (log : L) (data_device : D)
+    (recovered : Recovered) (start : ℕ) (result : OpenResult L D)
+    → IsStarted log data_device recovered start result → MakesCalls gives old data_device (MayEndWith None)
+    → MakesCalls gives old (data_device_left result) (MayEndWith (data_error_in result))
+started_data {gives = gives} {old = old} log data_device recovered start (Ok run) is made =
     subst (λ dev. MakesCalls gives old dev (MayEndWith None)) (sym (ap (λ (part : Part _). part.dev) is.data_part)) made
-started_data {gives = gives} {old = old} log store recovered start (Err error) (none, log_is, data_is) made =
+started_data {gives = gives} {old = old} log data_device recovered start (Err error) (none, log_is, data_is) made =
     subst (λ (f : RecFault). MakesCalls gives old error.2 (MayEndWith (data_error f))) (sym none)
     (subst (λ dev. MakesCalls gives old dev (MayEndWith (Some device.NoMemory))) (sym data_is) (out_of_memory made))
 
 -- and has the devices that were handed in
-started-log : {L D : Type 0} (log : L) (store : Part D) (recovered : Recovered) (start : ℕ) (result : OpenResult L D) → IsStarted log store recovered start result → log_device_left result ≡ log
-started-log log store recovered start (Ok run) is = ap (λ (part : Log _). part.dev) is.log_part
-started-log log store recovered start (Err error) is = is.1
+started-log : {L D : Type 0} (log : L) (data_device : D) (recovered : Recovered) (start : ℕ) (result : OpenResult L D)
+    → IsStarted log data_device recovered start result → log_device_left result ≡ log
+started-log log data_device recovered start (Ok run) is = ap (λ (part : Log _). part.dev) is.log_part
+started-log log data_device recovered start (Err error) is = is.1
 
-started-data : {L D : Type 0} (log : L) (store : Part D) (recovered : Recovered) (start : ℕ) (result : OpenResult L D) → IsStarted log store recovered start result → data_device_left result ≡ store.dev
-started-data log store recovered start (Ok run) is = ap (λ (part : Part _). part.dev) is.data_part
-started-data log store recovered start (Err error) is = is.2
+started-data : {L D : Type 0} (log : L) (data_device : D) (recovered : Recovered) (start : ℕ) (result : OpenResult L D)
+    → IsStarted log data_device recovered start result → data_device_left result ≡ data_device
+started-data log data_device recovered start (Ok run) is = ap (λ (part : Part _). part.dev) is.data_part
+started-data log data_device recovered start (Err error) is = is.2
 
 pub started_called : {L D : Type 0} {log_gives : L → Call → L → Type 0} {data_gives : D → Call → D → Type 0} (log_seen : L → Seen) (data_seen : D → Seen) (log_old : L) (data_old : D)
-    (log : L) (store : Part D) (recovered : Recovered) (start : ℕ) (result : OpenResult L D) → IsStarted log store recovered start result
-    → AreCalled log_seen data_seen log_gives data_gives (MayEndWith None) (MayEndWith None) log_old log data_old store.dev
+    (log : L) (data_device : D) (recovered : Recovered) (start : ℕ) (result : OpenResult L D)
+    → IsStarted log data_device recovered start result
+    → AreCalled log_seen data_seen log_gives data_gives (MayEndWith None) (MayEndWith None) log_old log data_old
+    data_device
     → AreCalled log_seen data_seen log_gives data_gives (MayEndWith (log_error_in result)) (MayEndWith (data_error_in result)) log_old (log_device_left result) data_old (data_device_left result)
-started_called log_seen data_seen log_old data_old log store recovered start result is called = record {
-  log = subst (λ dev. IsSameDevice (log_seen log_old) (log_seen dev)) (sym (started-log log store recovered start result is)) called.log;
-  data_device = subst (λ dev. IsSameDevice (data_seen data_old) (data_seen dev)) (sym (started-data log store recovered start result is)) called.data_device;
-  log_calls = started_log store recovered start result is called.log_calls;
-  data_calls = started_data log store recovered start result is called.data_calls;
+started_called log_seen data_seen log_old data_old log data_device recovered start result is called = record {
+  log = subst (λ dev. IsSameDevice (log_seen log_old) (log_seen dev))
+      (sym (started-log log data_device recovered start result is)) called.log;
+  data_device = subst (λ dev. IsSameDevice (data_seen data_old) (data_seen dev))
+      (sym (started-data log data_device recovered start result is)) called.data_device;
+  log_calls = started_log data_device recovered start result is called.log_calls;
+  data_calls = started_data log data_device recovered start result is called.data_calls;
 }
 
 -- calls, and others after them that may run out of memory
 pub may_end_then : {D : Type 0} {gives : D → Call → D → Type 0} {old middle new : D} {error : Option DevError}
     → MakesCalls gives old middle (MayEndWith None) → MakesCalls gives middle new (MayEndWith error) → MakesCalls gives old new (MayEndWith error)
 may_end_then {error = error} = joined_calls (MayEndWith-append error)
+
+-- calls of both devices that went well, and others after them
+pub called_then : {L D : Type 0} {log_seen : L → Seen} {data_seen : D → Seen} {log_gives : L → Call → L → Type 0}
+    {data_gives : D → Call → D → Type 0} {log_error data_error : Option DevError}
+    {log_old log_mid log_new : L} {data_old data_mid data_new : D}
+    → AreCalled log_seen data_seen log_gives data_gives (MayEndWith None) (MayEndWith None) log_old log_mid data_old
+    data_mid
+    → AreCalled log_seen data_seen log_gives data_gives (MayEndWith log_error) (MayEndWith data_error) log_mid log_new
+    data_mid data_new
+    → AreCalled log_seen data_seen log_gives data_gives (MayEndWith log_error) (MayEndWith data_error) log_old log_new
+    data_old data_new
+called_then first then = record {
+  log = record { size = then.log.size ∙ first.log.size; later = omega (arith, first.log.later, then.log.later) };
+  data_device = record {
+    size = then.data_device.size ∙ first.data_device.size;
+    later = omega
+        (arith, first.data_device.later, then.data_device.later);
+  };
+  log_calls = may_end_then first.log_calls then.log_calls;
+  data_calls = may_end_then first.data_calls then.data_calls;
+}
 
 -- recovery read the device, and this is how it may have ended
 pub reads_end : {D : Type 0} {gives : D → Call → D → Type 0} {old new : D} {error : Option DevError}

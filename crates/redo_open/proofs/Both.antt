@@ -1,5 +1,5 @@
 -- Both devices at the exits of opening.
-use Rattle.std.proofs.Common.{◌≡◌, ◌≤◌, ◌<◌, ◌+◌, ◌-◌, ◌⊎◌, ◌∙◌, ℕ, List, length, Option, Some, None, Ok, Err, refl, sym, ap, subst, ⊎_elim, arith, ◌≢◌}
+use Rattle.std.proofs.Common.{◌≡◌, ◌≤◌, ◌<◌, ◌+◌, ◌-◌, ◌⊎◌, ◌∙◌, ℕ, inl, List, length, Option, Some, None, Ok, Err, refl, sym, ap, subst, ⊎_elim, arith, ◌≢◌}
 use Rattle.std.specs.Prelude.{IfSome, Result}
 use Rattle.model_base.specs.{IsWithinLimits}
 use Rattle.model_base.specs.declared.shape.Shape.{Shape}
@@ -10,11 +10,10 @@ use Rattle.model_log.specs.declared.head.Format.{Format}
 use Rattle.model_log.specs.declared.head.Format.TheVariants.{One, Two, Three}
 use Rattle.model_log.specs.declared.head.Head.TheVariants.{Good}
 use Rattle.model_log.specs.declared.layout.Layout.{Layout}
-use Rattle.model_log.proofs.Formats.{other-layout}
 use Rattle.model_store.specs.{IsFairLog, IsOrderly}
 use Rattle.model_store.specs.Reading.{Reading}
 use Rattle.model_store.specs.declared.tail.Tail.{Tail}
-use Rattle.model_parts.specs.{found_layout, IsCleared, IsClearing, IsFresh, IsMigrated, IsMigrating, IsPut, IsPutting, IsReady, IsRewritten, IsUnopened, KeepsOpened, next_number, numbers_taken, start_block, start_of}
+use Rattle.model_parts.specs.{found_layout, IsCleared, IsClearing, IsFresh, IsMigrated, IsMigrating, IsPut, IsPutting, IsRewritten, IsUnopened, KeepsOpened, next_number, numbers_taken, start_block, start_of}
 use Rattle.model_parts.specs.Opened.{ReadsOpened}
 use Rattle.model_parts.proofs.Clearing.{clearing-header, cleared-clearing, IsTailIn}
 use Rattle.model_parts.proofs.Fresh.{alike-head, marked-fresh, marking-reads}
@@ -26,10 +25,11 @@ use Rattle.redo_disk.specs.Seen.{Seen}
 use Rattle.redo_disk.specs.declared.error.DevError.{DevError}
 use Rattle.redo_disk.proofs.Told.{known-as, told-step}
 use Rattle.redo_open.specs.Clear.{ClearsLog, ClearStep, HasClearedLog, ring_end}
-use Rattle.redo_open.specs.Devices.{IsFrom, IsNotOpened, OpensFrom, WhereBothTell}
+use Rattle.redo_open.specs.Devices.{IsFreshLog, IsFrom, IsNotOpened, OpensFrom, WhereBothTell}
 use Rattle.redo_open.specs.Mark.{HasMarked, IsMarked, IsMigratingNext, IsUnmoved, Marks, MarkStep, next_text}
 use Rattle.redo_open.specs.Places.{KeepsPlaces, HoldsPlaces}
 use Rattle.redo_open.specs.Put.{IsAtRestTo}
+use Rattle.redo_open.proofs.Entry.{still-found}
 use Rattle.redo_open.proofs.Rests.{base-image}
 
 pub both : (log data_told : Option Disk) (P Q : Disk → Type 0) (R : Disk → Disk → Type 0) → ((l d : Disk) → P l → Q d → R l d)
@@ -113,7 +113,8 @@ pub base-fair : (disk : Disk) → IsFairLog disk disk.base
 base-fair disk = record { possible = base-image disk; each = λ k inside sealed. record { count = 0; some = omega arith; same = refl } }
 
 pub not-opened : (opened : Reading) (tail : Option Tail) (log_old data_old : Seen) (log_bytes data_bytes image : List ℕ) → OpensFrom opened tail log_old data_old log_bytes data_bytes
-    → IsClearing (found_layout opened) opened.ckpt (start_of opened) tail log_bytes image → IsUnopened opened.format opened.shape opened.number opened.ckpt image
+    → IsClearing (found_layout opened) opened.ckpt (start_of opened) tail log_bytes image
+    → IsUnopened opened.shape opened.number opened.ckpt image
 not-opened opened tail log_old data_old log_bytes data_bytes image from clearing =
     let log : IsLogRead log_bytes opened = log-read log_bytes data_bytes opened from.orderly.reads in
     let is : IsTailIn (found_layout opened) opened.ckpt tail = tail-read log_bytes data_bytes opened tail from.orderly.reads from.found in
@@ -122,10 +123,9 @@ not-opened opened tail log_old data_old log_bytes data_bytes image from clearing
     let newest : newest_checkpoint (found_layout opened) image ≡ Some (opened.number, opened.ckpt) =
     same-newest (found_layout opened) log_bytes image (same 1 (omega arith)) (same 3 (omega arith)) ∙ from.orderly.reads.scan.checkpoint in
     record {
+      format = opened.format;
       head = same-head_of log_bytes image (same 0 (omega arith)) (same 2 (omega arith)) ∙ from.orderly.reads.scan.devices.head.head;
-      newest = λ other. subst
-          (λ (l : Layout). newest_checkpoint l image ≡ Some (opened.number, opened.ckpt))
-          (other-layout opened.format opened.shape other) newest;
+      still = still-found opened.format opened.shape opened.number opened.ckpt image newest;
     }
 
 pub unmoved-clears : (opened : Reading) (tail : Option Tail) (log_old data_old : Seen) (log_bytes data_bytes : List ℕ) (told : Option Disk) → OpensFrom opened tail log_old data_old log_bytes data_bytes
@@ -198,11 +198,6 @@ marking-both opened tail log_old data_old log_bytes data_bytes mid result new da
 
 -- ONCE THEY STAY.
 
-record IsMarkedLog (opened : Reading) (tail : Option Tail) (log_bytes : List ℕ) (disk : Disk) : Type 0 where
-  old_log : List ℕ
-  cleared : IsCleared (found_layout opened) opened.ckpt (start_of opened) tail log_bytes old_log
-  marked : HasMarked opened.format opened.shape opened.number (start_block opened) old_log disk
-
 taken-by : (opened : Reading) (format : Format) (n : ℕ) (disk : Disk) → opened.format ≡ format → n ≡ opened.number + numbers_taken format → IsFresh opened.shape (start_of opened) n disk
     → IsFresh opened.shape (start_of opened) (opened.number + numbers_taken opened.format) disk
 taken-by opened format n disk is same fresh =
@@ -228,25 +223,19 @@ marked-is_fresh opened tail log_old data_old log_bytes data_bytes old_log image 
     (subst (λ (n : ℕ). IsPut (place_of n) (NextText opened n) old_log one.marked) next one.put)
     (subst (λ (n : ℕ). IsMigrated opened.shape n (start_block opened) one.marked image) after one.migrated))) marked
 
-pub ready-both : (opened : Reading) (tail : Option Tail) (log_old data_old : Seen) (log_bytes data_bytes : List ℕ) (mid : Seen) (done : Unit {0}) (new : Seen) (data_told : Option Disk)
+pub marked-log : (opened : Reading) (tail : Option Tail) (log_old data_old : Seen) (log_bytes data_bytes : List ℕ)
+    (mid : Seen) (done : Unit {0}) (new : Seen)
     → OpensFrom opened tail log_old data_old log_bytes data_bytes → IfSome mid.tells (Cleared opened tail log_bytes)
-    → MarkStep opened.format opened.shape opened.number (start_block opened) mid (Ok done) new → IfSome data_told (HoldsPlaces opened.shape opened)
-    → WhereBothTell new.tells data_told (IsReady opened)
-ready-both opened tail log_old data_old log_bytes data_bytes mid done new data_told from known step second =
+    → MarkStep opened.format opened.shape opened.number (start_block opened) mid (Ok done) new
+    → IfSome new.tells (IsFreshLog opened)
+marked-log opened tail log_old data_old log_bytes data_bytes mid done new from known step =
     let Marked : Disk → Disk → Type 0 = λ a b. IsAtRestTo (log_device_length opened.shape) a → HasMarked opened.format opened.shape opened.number (start_block opened) a.reads b in
-    both new.tells data_told (IsMarkedLog opened tail log_bytes) (HoldsPlaces opened.shape opened) (IsReady opened)
-    (λ l d has holds. record {
-      log = subst (IsFresh opened.shape (start_of opened) (opened.number + numbers_taken opened.format)) (sym has.marked.nothing_pending)
-          (marked-is_fresh opened tail log_old data_old log_bytes data_bytes has.old_log l.base from has.cleared has.marked.marked);
-      pages = holds;
-    })
-    (told-step mid.tells new.tells (Cleared opened tail log_bytes) (IsMarkedLog opened tail log_bytes) Marked
-    (λ a b cleared marks. record {
-      old_log = a.reads;
-      cleared = cleared.cleared;
-      marked = marks (cleared-rests opened tail log_old data_old log_bytes data_bytes a from cleared);
-    }) known step.ok)
-    second
+    told-step mid.tells new.tells (Cleared opened tail log_bytes) (IsFreshLog opened) Marked
+    (λ a b cleared marks. (
+    let has = marks (cleared-rests opened tail log_old data_old log_bytes data_bytes a from cleared) in
+    subst (IsFreshLog opened) (sym has.nothing_pending)
+    (marked-is_fresh opened tail log_old data_old log_bytes data_bytes a.reads b.base from cleared.cleared has.marked)))
+    known step.ok
 
 -- until then it isn't opened
 unmoved-image : (opened : Reading) (tail : Option Tail) (log_old data_old : Seen) (log_bytes data_bytes old_log : List ℕ) (disk : Disk) → OpensFrom opened tail log_old data_old log_bytes data_bytes
@@ -259,10 +248,12 @@ unmoved-image opened tail log_old data_old log_bytes data_bytes old_log disk fro
     let zero : sector 0 old_log ≡ sector 0 log_bytes = clearing-header (found_layout opened) opened.ckpt (start_of opened) tail log_bytes old_log 0 log.log is (omega arith) clearing in
     let good : read_head (sector 0 log_bytes) ≡ Good opened.format opened.shape = sym (alike-head log_bytes from.alike) ∙ from.orderly.reads.scan.devices.head.head in
     ⊎_elim
-    (λ same. subst (IsUnopened opened.format opened.shape opened.number opened.ckpt) (sym same) (not-opened opened tail log_old data_old log_bytes data_bytes old_log from clearing))
+    (λ same. subst (IsUnopened opened.shape opened.number opened.ckpt) (sym same)
+    (not-opened opened tail log_old data_old log_bytes data_bytes old_log from clearing))
     (λ one. record {
+      format = opened.format;
       head = head-first disk.base opened.format opened.shape (ap read_head (one.1 ∙ zero) ∙ good);
-      newest = λ other. absurd (other one.0);
+      still = inl (λ three. (let other : One ≡ Three = sym one.0 ∙ three in absurd cc));
     }) unmoved
 
 pub unmoved-marks : (opened : Reading) (tail : Option Tail) (log_old data_old : Seen) (log_bytes data_bytes : List ℕ) (mid : Seen) (error : DevError) (new : Seen)

@@ -83,6 +83,21 @@ places-not_log fault own failed = (
     let none : IsPageFault LogDev = subst IsPageFault same own in
     absurd none)
 
+pub data-cause : (error : DevError) (fault : RecFault) → fault ≡ data_fault_of error → IsOpenFault fault
+data-cause device.Failed fault is = subst IsOpenFault (sym is) tt
+data-cause device.NoMemory fault is = subst IsOpenFault (sym is) tt
+
+pub data-risen : (before now : ℕ) (error : DevError) (fault : RecFault) → fault ≡ data_fault_of error
+    → HasCause {T = Unit {0}} before now (Err error)
+    → IsErrOf {T = Unit {0}} (Err fault) DataDev → HasRisen before now
+data-risen before now device.Failed fault is cause failed = cause.failed refl
+data-risen before now device.NoMemory fault is cause failed = absurd cc
+
+pub data-not_log : {P : Type 0} (error : DevError) (fault : RecFault) → fault ≡ data_fault_of error
+    → IsErrOf {T = Unit {0}} (Err fault) LogDev → P
+data-not_log device.Failed fault is failed = absurd cc
+data-not_log device.NoMemory fault is failed = absurd cc
+
 -- THE FAULTS OF FORMATTING.
 
 pub format-log : (shape : Shape) (log data_device log_after data_after : Seen) (error : DevError) (fault : RecFault) → fault ≡ log_fault_of error

@@ -1,11 +1,12 @@
 -- What opening promises of devices by how they were handed in: what was unsynced in them then is its proviso.
 use Rattle.std.proofs.Common.{◌≡◌, ◌≢◌, ◌⊎◌, inl, inr, ℕ, List, Option, Some, None, Err, refl, sym, ap, subst, ⊎_elim}
 use Rattle.std.specs.Prelude.{IfSome}
+use Rattle.model_base.specs.declared.shape.Shape.{Shape}
 use Rattle.model_device.specs.{synced}
 use Rattle.model_device.specs.Disk.{Disk}
-use Rattle.model_log.specs.{newest_checkpoint}
-use Rattle.model_log.specs.declared.layout.Layout.{Layout}
-use Rattle.model_log.proofs.Formats.{other-layout}
+use Rattle.model_log.specs.{layout_of, newest_checkpoint, run_layout}
+use Rattle.model_log.specs.declared.head.Format.{Format}
+use Rattle.model_log.specs.declared.head.Format.TheVariants.{One, Two, Three}
 use Rattle.model_parts.specs.{IsAtRest, IsOpenable, IsUnopened, KeepsOpened}
 use Rattle.model_parts.proofs.Keeping.{openable-keeps}
 use Rattle.model_store.specs.{IsOrderly}
@@ -117,17 +118,24 @@ unwritten-keeps opened l d (Some a) (Some b) orderly first second = λ log_since
       orderly = unwritten-orderly opened l d a b orderly log_is data_is;
     })
 
+-- in format 3 the newest checkpoint is the one that was found
+pub still-found : (format : Format) (shape : Shape) (number ckpt : ℕ) (bytes : List ℕ)
+    → newest_checkpoint (layout_of format shape) bytes ≡ Some (number, ckpt)
+    → (format ≢ Three) ⊎ (newest_checkpoint (run_layout shape) bytes ≡ Some (number, ckpt))
+still-found One shape number ckpt bytes newest = inl (λ is. absurd cc)
+still-found Two shape number ckpt bytes newest = inl (λ is. absurd cc)
+still-found Three shape number ckpt bytes newest = inr newest
+
 -- what stood on a log device at rest at its last good sync is what reads give
 rests-unopened : (opened : Reading) (log : Disk) (data_bytes : List ℕ) → IsAtRest log
     → IsOrderly log.reads data_bytes opened → IsNotOpened opened log
 rests-unopened opened log data_bytes rests orderly =
     let base : log.base ≡ log.reads = rests.one_image log.base (base-image log) in
     let scan = orderly.reads.scan in
-    subst (IsUnopened opened.format opened.shape opened.number opened.ckpt) (sym base) (record {
+    subst (IsUnopened opened.shape opened.number opened.ckpt) (sym base) (record {
+      format = opened.format;
       head = scan.devices.head.head;
-      newest = λ other. subst
-          (λ (l : Layout). newest_checkpoint l log.reads ≡ Some (opened.number, opened.ckpt))
-          (other-layout opened.format opened.shape other) scan.checkpoint;
+      still = still-found opened.format opened.shape opened.number opened.ckpt log.reads scan.checkpoint;
     })
 
 unwritten-unmoved : (opened : Reading) (l d : Disk) (log : Option Disk) → IsOrderly l.reads d.reads opened

@@ -1,9 +1,9 @@
 -- Writes of zeros, one after the other.
-use Rattle.std.proofs.Common.{◌≡◌, ◌≤◌, ◌+◌, ◌-◌, ◌*◌, ◌⊎◌, ℕ, inl, inr, List, length, take, refl, sym, ap, subst, ◌∙◌, ⊎_elim, arith}
+use Rattle.std.proofs.Common.{◌≡◌, ◌≤◌, ◌+◌, ◌-◌, ◌*◌, ◌⊎◌, ℕ, inl, inr, List, [], ◌∷◌, ◌++◌, length, take, refl, sym, ap, subst, ◌∙◌, ⊎_elim, arith}
 use Rattle.std.specs.Prelude.{replicate}
 use Rattle.std.proofs.lemmas.List.{take-replicate, drop-replicate}
 use Rattle.std.proofs.lemmas.Bool.{cases_lt}
-use Rattle.model_device.specs.{AreSectorWrites, Covers, FailsWrite, IsSectorWrite, sector, synced, written, written_sector}
+use Rattle.model_device.specs.{AreSectorWrites, Covers, FailsWrite, IsCovered, IsSectorWrite, sector, synced, written, written_sector}
 use Rattle.model_device.specs.Disk.{Disk}
 use Rattle.model_device.specs.declared.write.Write.{Write}
 use Rattle.model_device.proofs.Images.{sector-after_write}
@@ -76,6 +76,30 @@ sectors-add : (from at end count : ℕ) (old mid new : Disk) → IsPart from end
 sectors-add from at end count old mid new part room adds is whole =
     adds.sectors (part-sectors (length mid.base) from end at count part (omega (arith, ap length is.base, room.base))) (is.sectors whole)
 
+-- a sector that a list of writes covers with one more at its end
+pub covered-push : (writes : List Write) (write : Write) (k : ℕ) → IsCovered (writes ++ write ∷ []) k
+    → IsCovered writes k ⊎ Covers write k
+covered-push [] write k is = ⊎_elim (λ here. inr here) (λ none. absurd none) is
+covered-push (first ∷ writes) write k is =
+    ⊎_elim (λ here. inl (inl here)) (λ there. ⊎_elim (λ before. inl (inr before)) (λ last. inr last)
+    (covered-push writes write k there)) is
+
+-- a write that failed is among them or not
+pub covered-fails : (write : Write) (old new : Disk) (k : ℕ) → FailsWrite write old new → IsCovered new.writes k
+    → IsCovered old.writes k ⊎ Covers write k
+covered-fails write old new k fails is =
+    ⊎_elim (λ none. inl (subst (λ (ws : List Write). IsCovered ws k) none.0 is))
+    (λ pending. covered-push old.writes write k (subst (λ (ws : List Write). IsCovered ws k) pending.0 is))
+    fails.pending
+
+-- what was covered already, or by the write of a piece, is so by the stretch
+covered-more : (from at end count : ℕ) (old mid : Disk) (k : ℕ) → IsPart from end at count → Erases from at old mid
+    → IsCovered mid.writes k ⊎ Covers (zeros_write at count) k → IsCovered old.writes k ⊎ IsIn from end k
+covered-more from at end count old mid k part is either =
+    ⊎_elim (λ before. ⊎_elim (λ old_k. inl old_k) (λ here. inr (wider-in from at end k (omega (arith, part.high)) here))
+    (is.covered k before))
+    (λ here. inr (covers-in from end at count k part here)) either
+
 fails-length : (write : Write) (old new : Disk) → FailsWrite write old new → length new.reads ≡ length old.reads
 fails-length write old new fails = ⊎_elim (λ none. ap length none.1) (λ pending. pending.1.same_length) fails.pending
 
@@ -87,6 +111,8 @@ erases-failed from end at count old mid new part room is fails =
       base = fails.base ∙ is.base;
       same_length = fails-length (zeros_write at count) mid new fails ∙ is.same_length;
       sectors = sectors-add from at end count old mid new part room adds is;
+      covered = λ k now. covered-more from at end count old mid k part is
+          (covered-fails (zeros_write at count) mid new k fails now);
       each = each-adds from at end count old mid new part adds is;
     }
 
@@ -94,7 +120,14 @@ erases-failed from end at count old mid new part room is fails =
 
 pub erased-none : (from : ℕ) (old : Disk) → HasErased from from old old
 erased-none from old = record {
-  erases = record { base = refl; same_length = refl; sectors = λ whole. whole; each = λ k bytes stands. inl stands };
+  erases = record {
+    base = refl;
+    same_length = refl;
+    sectors = λ whole. whole;
+    covered = λ k now. inl now;
+    each =
+        λ k bytes stands. inl stands;
+  };
   zeros = λ k is. absurd (omega (arith, is.low, is.high));
   others = λ k apart. refl;
 }
@@ -112,6 +145,8 @@ erased-more from at count old mid part room is =
         base = is.erases.base;
         same_length = length-overwritten at (replicate count 0) mid.reads sectors.within ∙ is.erases.same_length;
         sectors = sectors-add from at (at + count) count old mid (written mid write) part room adds is.erases;
+        covered = λ k now. covered-more from at (at + count) count old mid k part is.erases
+            (covered-push mid.writes write k now);
         each = each-adds from at (at + count) count old mid (written mid write) part adds is.erases;
       };
       zeros = λ k inside. ⊎_elim

@@ -5,8 +5,6 @@ use Rattle.model_device.specs.{settled, synced}
 use Rattle.model_device.specs.Disk.{Disk}
 use Rattle.model_log.specs.{newest_checkpoint}
 use Rattle.model_log.proofs.Several.{one_group}
-use Rattle.model_log.specs.declared.layout.Layout.{Layout}
-use Rattle.model_log.proofs.Formats.{other-layout}
 use Rattle.model_parts.specs.{found_layout, IsRewriting, IsUnopened, KeepsHead, KeepsOpened}
 use Rattle.model_parts.proofs.Alike.{kept-found, kept-orderly}
 use Rattle.model_parts.proofs.Keeping.{kept-head_keeps}
@@ -23,6 +21,7 @@ use Rattle.redo_open.specs.Devices.{IsFrom, IsNotOpened, OpensFrom, WhereBothTel
 use Rattle.redo_open.specs.Heads.{AlikeStep, HasAlike, HaveHeads, KeepsHeads}
 use Rattle.redo_open.specs.Mend.{IsSettledData}
 use Rattle.redo_open.proofs.Both.{base-fair, both}
+use Rattle.redo_open.proofs.Entry.{still-found}
 use Rattle.redo_open.proofs.Opens.{unchanged-keeps}
 use Rattle.redo_open.proofs.Rests.{settled-rests}
 use Rattle.redo_open.proofs.Stores.{synced-from, tells-synced}
@@ -129,17 +128,16 @@ failed-heads read heads log_bytes data_bytes old new error reads front at step =
 
 -- the header says the same, and the checkpoints are as they were
 head-unopened : (opened : Reading) (log_bytes data_bytes image : List ℕ) → IsOrderly log_bytes data_bytes opened
-    → KeepsHead log_bytes image → IsUnopened opened.format opened.shape opened.number opened.ckpt image
+    → KeepsHead log_bytes image → IsUnopened opened.shape opened.number opened.ckpt image
 head-unopened opened log_bytes data_bytes image orderly keeps =
     let newest : newest_checkpoint (found_layout opened) image ≡ Some (opened.number, opened.ckpt) =
     same-newest (found_layout opened) log_bytes image
     (keeps.others 1 (λ same. omega arith) (λ same. omega arith))
     (keeps.others 3 (λ same. omega arith) (λ same. omega arith)) ∙ orderly.reads.scan.checkpoint in
     record {
+      format = opened.format;
       head = keeps.head ∙ orderly.reads.scan.devices.head.head;
-      newest = λ other. subst
-          (λ (l : Layout). newest_checkpoint l image ≡ Some (opened.number, opened.ckpt))
-          (other-layout opened.format opened.shape other) newest;
+      still = still-found opened.format opened.shape opened.number opened.ckpt image newest;
     }
 
 pub failed-keeps : (opened read : Reading) (heads : List ℕ) (log data_told log_read data_read : Option Disk)

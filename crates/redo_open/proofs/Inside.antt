@@ -1,8 +1,11 @@
 -- Writes that lie within the lengths of a store.
-use Rattle.std.proofs.Common.{◌≡◌, ◌≤◌, ◌+◌, ℕ, length, replicate, Option, Some, None, Ok, Err, sym, ap, subst, arith}
+use Rattle.std.proofs.Common.{◌≡◌, ◌≤◌, ◌+◌, ℕ, length, replicate, Option, Some, None, Ok, Err, sym, ap, subst, ⊎_elim, arith}
 use Rattle.std.specs.Prelude.{IfOk}
+use Rattle.std.proofs.Math.Nat.{mul-le-mul_right}
+use Rattle.model_base.specs.{IsWithinLimits, run_shape}
 use Rattle.model_base.specs.declared.shape.Shape.{Shape}
 use Rattle.model_device.specs.{IsWithin}
+use Rattle.model_page.specs.{data_device_length}
 use Rattle.model_device.specs.Disk.{Disk}
 use Rattle.model_device.specs.declared.write.Write.{Write}
 use Rattle.model_log.proofs.Several.{one_group}
@@ -13,7 +16,7 @@ use Rattle.redo_disk.proofs.Made.{joined_calls, weaker_calls}
 use Rattle.redo_disk.specs.{AreReads, Call, EndWith, MakesCalls, ReadsMayEndWith}
 use Rattle.redo_disk.specs.declared.error.DevError.{DevError}
 use Rattle.redo_open.proofs.Erases.{zeros_write}
-use Rattle.redo_open.proofs.Puts.{puts-append}
+use Rattle.redo_open.proofs.Puts.{put-weaker, puts-append}
 use Rattle.redo_open.proofs.Rows.{length-zeros}
 use Rattle.redo_logdev.specs.Part.{Part as Log}
 use Rattle.redo_open.specs.Formatting.{WritesInside}
@@ -49,15 +52,49 @@ ends_of = weaker_calls (λ calls are. are.ends)
 
 -- OPENING.
 
+-- a store's own slots and places lie within the length that a run asks for
+shape-room : (shape : Shape) → IsWithinLimits shape → data_device_length shape ≤ data_device_length (run_shape shape)
+shape-room shape limits =
+    mul-le-mul_right shape.page_size
+    (⊎_elim (λ slots. omega (arith, slots)) (λ early. omega (arith, early.slots)) limits.slots)
+
+-- what lies within them does so too
+pub inside_run : {L D : Type 0} {log_gives : L → Call → L → Type 0} {data_gives : D → Call → D → Type 0}
+    {log_old log_new : L} {data_old data_new : D} (shape : Shape)
+    → IsWithinLimits shape → WritesInside log_gives data_gives shape log_old log_new data_old data_new
+    → WritesInside log_gives data_gives (run_shape shape) log_old log_new data_old data_new
+inside_run shape limits made = record {
+  log = made.log;
+  data_device = weaker_calls
+      (put-weaker (IsWithin (data_device_length shape)) (IsWithin (data_device_length (run_shape shape)))
+      (within-longer (data_device_length shape) (data_device_length (run_shape shape)) (shape-room shape limits)))
+      made.data_device;
+}
+
+-- calls of both devices, and others after them
+pub inside_behind : {L D : Type 0} {log_gives : L → Call → L → Type 0} {data_gives : D → Call → D → Type 0}
+    {shape : Shape} {log_old log_mid log_new : L} {data_old data_mid data_new : D}
+    → WritesInside log_gives data_gives shape log_old log_mid data_old data_mid
+    → WritesInside log_gives data_gives shape log_mid log_new data_mid data_new
+    → WritesInside log_gives data_gives shape log_old log_new data_old data_new
+inside_behind first then = record {
+  log = puts_behind first.log then.log;
+  data_device = puts_behind first.data_device
+      then.data_device;
+}
+
 -- a run that was started makes no call
-pub started_inside : {L D : Type 0} {log_gives : L → Call → L → Type 0} {data_gives : D → Call → D → Type 0} {shape : Shape} {log_old : L} {data_old : D} (log : L) (store : Part D)
-    (recovered : Recovered) (start : ℕ) (result : OpenResult L D) → IsStarted log store recovered start result
-    → WritesInside log_gives data_gives shape log_old log data_old store.dev
+pub started_inside : {L D : Type 0} {log_gives : L → Call → L → Type 0} {data_gives : D → Call → D → Type 0}
+    {shape : Shape} {log_old : L} {data_old : D} (log : L) (data_device : D)
+    (recovered : Recovered) (start : ℕ) (result : OpenResult L D) → IsStarted log data_device recovered start result
+    → WritesInside log_gives data_gives shape log_old log data_old data_device
     → WritesInside log_gives data_gives shape log_old (log_device_left result) data_old (data_device_left result)
-started_inside {log_gives = log_gives} {data_gives = data_gives} {shape = shape} {log_old = log_old} {data_old = data_old} log store recovered start (Ok run) is made =
+started_inside {log_gives = log_gives} {data_gives = data_gives} {shape = shape} {log_old = log_old}
+    {data_old = data_old} log data_device recovered start (Ok run) is made =
     subst (λ dev. WritesInside log_gives data_gives shape log_old dev data_old run.store.dev) (sym (ap (λ (part : Log _). part.dev) is.log_part))
     (subst (λ dev. WritesInside log_gives data_gives shape log_old log data_old dev) (sym (ap (λ (part : Part _). part.dev) is.data_part)) made)
-started_inside {log_gives = log_gives} {data_gives = data_gives} {shape = shape} {log_old = log_old} {data_old = data_old} log store recovered start (Err error) (none, log_is, data_is) made =
+started_inside {log_gives = log_gives} {data_gives = data_gives} {shape = shape} {log_old = log_old}
+    {data_old = data_old} log data_device recovered start (Err error) (none, log_is, data_is) made =
     subst (λ dev. WritesInside log_gives data_gives shape log_old dev data_old error.2) (sym log_is)
     (subst (λ dev. WritesInside log_gives data_gives shape log_old log data_old dev) (sym data_is) made)
 
@@ -90,24 +127,30 @@ pub unopened-inside : {L D : Type 0} (log_gives : L → Call → L → Type 0) (
     (error : RecFault × L × D) → ((shape : Shape) → ReadsThenWrites log_gives data_gives shape log error.1 data_device error.2)
     → OpensInside log_gives data_gives log_told data_told log_now data_now log data_device (Err error)
 unopened-inside log_gives data_gives log_told data_told log_now data_now log data_device error inside = record {
-  read = λ log_still data_still reading. whatever-read log_told data_told reading (λ shape. ReadsThenWrites log_gives data_gives shape log error.1 data_device error.2) (inside reading.shape);
+  read = λ log_still data_still reading. whatever-read log_told data_told reading
+      (λ shape. ReadsThenWrites log_gives data_gives (run_shape shape) log error.1 data_device error.2)
+      (inside (run_shape reading.shape));
   opened = tt;
 }
 
 opened-inside : {L D : Type 0} (log_gives : L → Call → L → Type 0) (data_gives : D → Call → D → Type 0) (log : L) (data_device : D) (result : OpenResult L D) (read : Reading)
-    → IfOk result (IsOpenedAs read) → ReadsThenWrites log_gives data_gives read.shape log (log_device_left result) data_device (data_device_left result)
+    → IfOk result (IsOpenedAs read) → ReadsThenWrites log_gives data_gives (run_shape read.shape) log
+    (log_device_left result) data_device (data_device_left result)
     → IfOk result (λ store. ReadsThenWrites log_gives data_gives store.shape log store.log.dev data_device store.store.dev)
 opened-inside log_gives data_gives log data_device (Ok store) read opened inside =
     subst (λ shape. ReadsThenWrites log_gives data_gives shape log store.log.dev data_device store.store.dev) (sym opened.shape) inside
 opened-inside log_gives data_gives log data_device (Err error) read opened inside = tt
 
--- the store was read, and what was written then lies inside by the shape that was read
+-- the store was read, and what was written then lies inside by the shape of a run on it
 pub read-inside : {L D : Type 0} (log_gives : L → Call → L → Type 0) (data_gives : D → Call → D → Type 0) (log_told data_told log_now data_now : Option Disk) (log : L) (data_device : D)
     (result : OpenResult L D) (read : Reading) → WhereStillTold log_now data_now (OnContents log_told data_told (λ log_bytes data_bytes. IsReading log_bytes data_bytes read)) → IfOk result (IsOpenedAs read)
-    → ReadsThenWrites log_gives data_gives read.shape log (log_device_left result) data_device (data_device_left result)
+    → ReadsThenWrites log_gives data_gives (run_shape read.shape) log (log_device_left result) data_device
+    (data_device_left result)
     → OpensInside log_gives data_gives log_told data_told log_now data_now log data_device result
 read-inside log_gives data_gives log_told data_told log_now data_now log data_device result read reads opened inside = record {
-  read = λ log_still data_still reading. as-read log_told data_told reading read (λ shape. ReadsThenWrites log_gives data_gives shape log (log_device_left result) data_device (data_device_left result))
+  read = λ log_still data_still reading. as-read log_told data_told reading read
+      (λ shape. ReadsThenWrites log_gives data_gives (run_shape shape) log (log_device_left result) data_device
+      (data_device_left result))
       (reads log_still data_still) inside;
   opened = opened-inside log_gives data_gives log data_device result read opened inside;
 }

@@ -5,6 +5,7 @@ pub mod Both
 pub mod Causes
 pub mod Clears
 pub mod Endings
+pub mod Enlarges
 pub mod Entry
 pub mod Erases
 pub mod Formats
@@ -18,14 +19,18 @@ pub mod Mends
 pub mod Migrates
 pub mod Opens
 pub mod PagesInside
+pub mod Pieces
 pub mod PutBlocks
 pub mod Puts
 pub mod Recovered
 pub mod Rests
 pub mod Rows
+pub mod RunHeads
+pub mod Runs
 pub mod Standing
 pub mod Still
 pub mod Stores
+pub mod Texts
 pub mod Told
 pub mod Writings
 pub mod Zeroing

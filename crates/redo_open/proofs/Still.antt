@@ -40,11 +40,17 @@ contents-same P log log_new data_told data_new log_same data_same known =
     subst (λ (told : Option Disk). OnContents log told P) data_same (subst (λ (told : Option Disk). OnContents told data_new P) log_same known)
 
 -- what was read is what the devices told at first, which were only read since
+pub contents-back : (P : List ℕ → List ℕ → Type 0) (log log_read log_now data_told data_now : Option Disk)
+    → StillTells log log_read
+    → StillTells log_read log_now → StillTells data_told data_now → log_now ≢ None → data_now ≢ None
+    → OnContents log_read data_now P → OnContents log data_told P
+contents-back P log log_read log_now data_told data_now log_first log_then data_first log_on data_on =
+    contents-same P log log_read data_told data_now
+    (still-equal log log_read log_first (still-on log_read log_now log_then log_on))
+    (still-equal data_told data_now data_first data_on)
+
 pub reading-back : (reading : Reading) (log log_read log_now data_told data_now : Option Disk) → StillTells log log_read
     → StillTells log_read log_now → StillTells data_told data_now → log_now ≢ None → data_now ≢ None
     → OnContents log_read data_now (λ log_bytes data_bytes. IsReading log_bytes data_bytes reading)
     → OnContents log data_told (λ log_bytes data_bytes. IsReading log_bytes data_bytes reading)
-reading-back reading log log_read log_now data_told data_now log_first log_then data_first log_on data_on =
-    contents-same (λ log_bytes data_bytes. IsReading log_bytes data_bytes reading) log log_read data_told data_now
-    (still-equal log log_read log_first (still-on log_read log_now log_then log_on))
-    (still-equal data_told data_now data_first data_on)
+reading-back reading = contents-back (λ log_bytes data_bytes. IsReading log_bytes data_bytes reading)

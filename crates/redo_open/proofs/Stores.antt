@@ -1,25 +1,30 @@
 -- A store that is opened, from what its devices told at first.
-use Rattle.std.proofs.Common.{◌≡◌, ◌∙◌, ◌≤◌, ℕ, List, Option, Some, None, Ok, Err, refl, sym, ap, subst}
+use Rattle.std.proofs.Common.{◌≡◌, ◌∙◌, ◌≤◌, ◌<◌, ℕ, inl, inr, List, length, Option, Some, None, Ok, Err, refl, sym, ap, subst, ⊎_elim, arith}
 use Rattle.std.specs.Prelude.{IfErr, IfOk, IfSome}
-use Rattle.model_base.specs.{HasRisen}
+use Rattle.model_base.specs.{HasRisen, run_shape}
+use Rattle.model_base.specs.declared.shape.Shape.{Shape}
 use Rattle.model_device.specs.{settled, synced}
 use Rattle.model_device.specs.Disk.{Disk}
 use Rattle.model_parts.specs.{KeepsOpened}
+use Rattle.model_log.specs.{log_device_length}
+use Rattle.model_page.specs.{data_device_length}
 use Rattle.model_log.proofs.Several.{one_group}
-use Rattle.model_store.specs.{IsOrderly, IsReading}
+use Rattle.model_store.specs.{IsOrderly, IsReading, Refuses, RefusesToOpen}
 use Rattle.model_store.specs.Reading.{Reading}
 use Rattle.model_store.specs.declared.refusal.Refusal.{Refusal}
+use Rattle.model_store.specs.declared.refusal.Refusal.TheVariants as refusal
+use Rattle.model_store.proofs.OneReading.{same_reading}
 use Rattle.model_store.proofs.OneAnswer.{read-not_refused}
-use Rattle.redo_disk.specs.{HasCause, OnTold}
+use Rattle.redo_disk.specs.{HasCause, HasSize, OnTold}
 use Rattle.redo_disk.specs.Seen.{Seen}
 use Rattle.redo_disk.specs.declared.error.DevError.{DevError}
 use Rattle.redo_disk.specs.declared.error.DevError.TheVariants as device
 use Rattle.redo_open.specs.Devices.{IsNotOpened, IsOpenFault, IsSameDevice, WhereBothTell}
-use Rattle.redo_open.specs.Opening.{OpenResult, HasFaultCause, IsOpenedAs, IsOpeningOf, OpensSafely, WhereRefused, WhereStillTold, log_device_left, data_device_left}
+use Rattle.redo_open.specs.Opening.{OpenResult, HasFaultCause, HasOpeningCauseIn, IsOpenedAs, IsOpeningOf, OpensSafely, WhereRefused, WhereStillTold, log_device_left, data_device_left}
 use Rattle.redo_disk.proofs.Told.{told-step}
 use Rattle.redo_open.proofs.Entry.{keeps-anyway, unmoved-anyway}
 use Rattle.redo_open.proofs.Told.{risen-since}
-use Rattle.redo_recover.specs.{data_fault_of, HasLengthCause, log_fault_of, OnContents, refusal_of}
+use Rattle.redo_recover.specs.{data_error, data_fault_of, HasCauseIn, HasLengthCause, IsLengthFault, IsUnchanged, log_error, log_fault_of, OnContents, refusal_of}
 use Rattle.redo_recover.specs.Devices.{OnContent}
 use Rattle.redo_recover.specs.declared.fault.RecFault.{RecFault}
 use Rattle.redo_recover.specs.declared.fault.RecFault.TheVariants.{SmallLog, NotFormatted, BadFormat, SmallData, NoCheckpoint, BadRecord, PageLost, PageAhead, LogDev, DataDev, NoMemory}
@@ -104,20 +109,134 @@ all-contents None data_told each = tt
 all-contents (Some l) None each = tt
 all-contents (Some l) (Some d) each = each l.reads d.reads
 
+-- a cause for which contents are refused is one for which they aren't opened
+also-unopened : (cause : Option Refusal) (log data_told : Option Disk)
+    → IfSome cause (λ one. OnContents log data_told (λ log_bytes data_bytes. Refuses log_bytes data_bytes one))
+    → IfSome cause (λ one. OnContents log data_told (λ log_bytes data_bytes. RefusesToOpen log_bytes data_bytes one))
+also-unopened None log data_told known = tt
+also-unopened (Some one) log data_told known = on-contents log data_told (λ log_bytes data_bytes refuses. inl refuses) known
+
+pub also-opening : (fault : RecFault) (log data_told : Option Disk) → HasCauseIn log data_told fault
+    → HasOpeningCauseIn log data_told fault
+also-opening fault = also-unopened (refusal_of fault)
+
 -- what is so anyway is so of a store that is refused
 pub also-refused : (log data_device : Seen) {P Q : Type 0} → P → Q → WhereRefused log data_device (P × Q)
 also-refused log data_device first second refusal = all-contents log.tells data_device.tells (λ log_bytes data_bytes refused. (first, second))
 
--- and of one that was read anything, since it isn't refused
+-- the store is read as this, and its data device has room for a run
+pub record IsReadWithRoom (reading : Reading) (log_bytes data_bytes : List ℕ) : Type 0 where
+  pub is_read : IsReading log_bytes data_bytes reading
+  pub room : data_device_length (run_shape reading.shape) ≤ length data_bytes
+
+-- and of one that was read so anything, since it isn't refused
+with-room_not_refused : (log_bytes data_bytes : List ℕ) (reading : Reading) (refusal : Refusal)
+    → IsReadWithRoom reading log_bytes data_bytes
+    → RefusesToOpen log_bytes data_bytes refusal → ⊥
+with-room_not_refused log_bytes data_bytes reading refusal read refused =
+    ⊎_elim (λ refuses. read-not_refused one_group log_bytes data_bytes reading refusal read.is_read refuses)
+    (λ none. (
+    let same : none.reading ≡ reading = same_reading one_group log_bytes data_bytes none.reading reading none.is_read
+    read.is_read in
+    let short : length data_bytes < data_device_length (run_shape reading.shape) =
+    subst (λ (r : Reading). length data_bytes < data_device_length (run_shape r.shape)) same none.short in
+    absurd (omega (arith, short, read.room)))) refused
+
 pub read-unrefused : (log data_device : Seen) (P : Type 0) (reading : Reading)
-    → OnContents log.tells data_device.tells (λ log_bytes data_bytes. IsReading log_bytes data_bytes reading) → WhereRefused log data_device P
+    → OnContents log.tells data_device.tells (IsReadWithRoom reading) → WhereRefused log data_device P
 read-unrefused log data_device P reading reads refusal =
     on-contents log.tells data_device.tells
-    (λ log_bytes data_bytes read refused. absurd (read-not_refused one_group log_bytes data_bytes reading refusal read refused)) reads
+    (λ log_bytes data_bytes read refused. absurd
+    (with-room_not_refused log_bytes data_bytes reading refusal read refused)) reads
+
+-- a device of that size has it
+pub read-roomy : (log data_told : Option Disk) (size : ℕ) (reading : Reading)
+    → data_device_length (run_shape reading.shape) ≤ size → IfSome data_told (HasSize size)
+    → OnContents log data_told (λ log_bytes data_bytes. IsReading log_bytes data_bytes reading)
+    → OnContents log data_told (IsReadWithRoom reading)
+read-roomy None data_told size reading room sized reads = tt
+read-roomy (Some l) None size reading room sized reads = tt
+read-roomy (Some l) (Some d) size reading room sized reads =
+    record { is_read = reads; room = omega (arith, sized.reads, room) }
+
+-- A STORE THAT HAS NO ROOM for a run.
+
+-- the store is read as this, on a data device of that size
+pub record IsReadWithSize (reading : Reading) (size : ℕ) (log_bytes data_bytes : List ℕ) : Type 0 where
+  pub is_read : IsReading log_bytes data_bytes reading
+  pub sized : length data_bytes ≡ size
+
+pub read-sized : (log data_told : Option Disk) (size : ℕ) (reading : Reading) → IfSome data_told (HasSize size)
+    → OnContents log data_told (λ log_bytes data_bytes. IsReading log_bytes data_bytes reading)
+    → OnContents log data_told (IsReadWithSize reading size)
+read-sized None data_told size reading sized reads = tt
+read-sized (Some l) None size reading sized reads = tt
+read-sized (Some l) (Some d) size reading sized reads = record { is_read = reads; sized = sized.reads }
+
+short-cause : (log data_device log_after data_after : Seen) (n : ℕ) (reading : Reading)
+    → data_device.size < data_device_length (run_shape reading.shape)
+    → n ≡ data_device_length (run_shape reading.shape)
+    → WhereStillTold log_after.tells data_after.tells
+    (OnContents log.tells data_device.tells (IsReadWithSize reading data_device.size))
+    → IsUnchanged log log_after → IsUnchanged data_device data_after
+    → HasFaultCause log data_device log_after data_after (SmallData n)
+short-cause log data_device log_after data_after n reading short n_is reads log_same data_same = record {
+  refused = λ log_still data_still. on-contents log.tells data_device.tells
+      (λ log_bytes data_bytes read. inr (record {
+        reading = reading;
+        is_read = read.is_read;
+        short = omega (arith, short, read.sized);
+        refusal_is = ap (λ (k : ℕ). refusal.SmallData k) n_is;
+      })) (reads log_still data_still);
+  lengths = omega (arith, short, n_is);
+  kept = λ log_still data_still. also-refused log data_device log_same data_same;
+  log_failed = λ is. absurd cc;
+  data_failed = λ is. absurd cc;
+}
+
+-- the log device is as long as the store's own shape asks, and so as that of a run
+pub room-cause : (log data_device log_after data_after : Seen) (fault : RecFault) (reading : Reading)
+    → log_device_length reading.shape ≤ log.size
+    → IsLengthFault (run_shape reading.shape) log.size data_device.size fault
+    → WhereStillTold log_after.tells data_after.tells
+    (OnContents log.tells data_device.tells (IsReadWithSize reading data_device.size))
+    → IsUnchanged log log_after → IsUnchanged data_device data_after
+    → HasFaultCause log data_device log_after data_after fault
+room-cause log data_device log_after data_after (SmallData n) reading long is reads log_same data_same =
+    short-cause log data_device log_after data_after n reading is.1 is.2 reads log_same data_same
+room-cause log data_device log_after data_after (SmallLog n) reading long is reads log_same data_same = absurd
+    (omega (arith, long, is.0))
+room-cause log data_device log_after data_after NotFormatted reading long is reads log_same data_same = absurd is
+room-cause log data_device log_after data_after (BadFormat n) reading long is reads log_same data_same = absurd is
+room-cause log data_device log_after data_after NoCheckpoint reading long is reads log_same data_same = absurd is
+room-cause log data_device log_after data_after (BadRecord lsn) reading long is reads log_same data_same = absurd is
+room-cause log data_device log_after data_after (PageLost p) reading long is reads log_same data_same = absurd is
+room-cause log data_device log_after data_after (PageAhead p lsn) reading long is reads log_same data_same = absurd is
+room-cause log data_device log_after data_after LogDev reading long is reads log_same data_same = absurd is
+room-cause log data_device log_after data_after DataDev reading long is reads log_same data_same = absurd is
+room-cause log data_device log_after data_after NoMemory reading long is reads log_same data_same = absurd is
+
+-- such a fault is none of a device's calls
+pub length-ends : (shape : Shape) (log_size data_size : ℕ) (fault : RecFault)
+    → IsLengthFault shape log_size data_size fault
+    → (log_error fault ≡ None) × (data_error fault ≡ None)
+length-ends shape log_size data_size (SmallData n) is = (refl, refl)
+length-ends shape log_size data_size (SmallLog n) is = (refl, refl)
+length-ends shape log_size data_size NotFormatted is = absurd is
+length-ends shape log_size data_size (BadFormat n) is = absurd is
+length-ends shape log_size data_size NoCheckpoint is = absurd is
+length-ends shape log_size data_size (BadRecord lsn) is = absurd is
+length-ends shape log_size data_size (PageLost p) is = absurd is
+length-ends shape log_size data_size (PageAhead p lsn) is = absurd is
+length-ends shape log_size data_size LogDev is = absurd is
+length-ends shape log_size data_size DataDev is = absurd is
+length-ends shape log_size data_size NoMemory is = absurd is
+
+-- WHATEVER FAILED AFTER THAT.
 
 pub opening-cause : {L D : Type 0} (log_seen : L → Seen) (data_seen : D → Seen) (log data_device log_mid data_mid : Seen) (result : OpenResult L D) (reading : Reading)
     → WhereStillTold (log_seen (log_device_left result)).tells (data_seen (data_device_left result)).tells
-    (OnContents log.tells data_device.tells (λ log_bytes data_bytes. IsReading log_bytes data_bytes reading))
+    (OnContents log.tells data_device.tells (IsReadWithRoom reading))
     → log.faults ≤ log_mid.faults → data_device.faults ≤ data_mid.faults → IfErr result (λ error. IsOpenFault error.0)
     → IfErr result (λ error. error.0 ≡ LogDev → HasRisen log_mid.faults (log_seen error.1).faults)
     → IfErr result (λ error. error.0 ≡ DataDev → HasRisen data_mid.faults (data_seen error.2).faults)
@@ -140,7 +259,7 @@ both-err log_seen data_seen log data_device (Err error) first second = (first, s
 
 -- the sync of the data device failed
 pub sync-cause : (log data_device log_after data_after : Seen) (error : DevError) (fault : RecFault) (reading : Reading) → fault ≡ data_fault_of error
-    → WhereStillTold log_after.tells data_after.tells (OnContents log.tells data_device.tells (λ log_bytes data_bytes. IsReading log_bytes data_bytes reading))
+    → WhereStillTold log_after.tells data_after.tells (OnContents log.tells data_device.tells (IsReadWithRoom reading))
     → HasCause {T = Unit {0}} data_device.faults data_after.faults (Err error) → HasFaultCause log data_device log_after data_after fault
 sync-cause log data_device log_after data_after device.Failed fault reading is reads cause =
     subst (HasFaultCause log data_device log_after data_after) (sym is)
@@ -151,7 +270,7 @@ sync-cause log data_device log_after data_after device.NoMemory fault reading is
 
 -- the two header blocks weren't read, or not made alike
 pub heads-cause : (log data_device log_after data_after : Seen) (error : DevError) (fault : RecFault) (reading : Reading) → fault ≡ log_fault_of error
-    → WhereStillTold log_after.tells data_after.tells (OnContents log.tells data_device.tells (λ log_bytes data_bytes. IsReading log_bytes data_bytes reading))
+    → WhereStillTold log_after.tells data_after.tells (OnContents log.tells data_device.tells (IsReadWithRoom reading))
     → HasCause {T = Unit {0}} log.faults log_after.faults (Err error) → HasFaultCause log data_device log_after data_after fault
 heads-cause log data_device log_after data_after device.Failed fault reading is reads cause =
     subst (HasFaultCause log data_device log_after data_after) (sym is)

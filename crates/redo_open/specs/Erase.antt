@@ -1,7 +1,7 @@
 -- A stretch of a device while it is filled with zeros.
 use Rattle.std.specs.Prelude.{ℕ, ◌≡◌, ◌≤◌, ◌<◌, ◌*◌, ◌⊎◌, List, length}
 use Rattle.model_base.specs.declared.limits.TheConstants.{BLOCK_SIZE}
-use Rattle.model_device.specs.{AreSectorWrites, sector, settled}
+use Rattle.model_device.specs.{AreSectorWrites, IsCovered, sector, settled}
 use Rattle.model_device.specs.Disk.{Disk}
 use Rattle.model_parts.specs.{IsErasing, IsUnsealed, MayStand, zero_block}
 use Rattle.model_store.specs.{IsFairLog}
@@ -17,12 +17,14 @@ pub record Reaches (end : ℕ) (disk : Disk) : Type 0 where
   pub reads : end ≤ length disk.reads
 
 -- In a sector of a fair image may stand what might have stood there before, or, in one of the stretch, bytes of which
--- nothing is read. What stood there at the last good sync is as it was, and where all writes were of whole sectors they
--- still are.
+-- nothing is read. What stood there at the last good sync is as it was, no write covers another sector that none
+-- covered
+-- before, and where all writes were of whole sectors they still are.
 pub record Erases (from end : ℕ) (old new : Disk) : Type 0 where
   pub base : new.base ≡ old.base
   pub same_length : length new.reads ≡ length old.reads
   pub sectors : AreSectorWrites (length old.base) old.writes → AreSectorWrites (length new.base) new.writes
+  pub covered : (k : ℕ) → IsCovered new.writes k → IsCovered old.writes k ⊎ IsIn from end k
   pub each : (k : ℕ) (bytes : List ℕ) → MayStand new k bytes → MayStand old k bytes ⊎ (IsIn from end k × IsUnsealed bytes)
 
 -- And reads give zeros there, and else what they gave.

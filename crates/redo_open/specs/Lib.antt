@@ -1,6 +1,7 @@
 pub mod Blank
 pub mod Clear
 pub mod Devices
+pub mod Enlarge
 pub mod Erase
 pub mod Formatting
 pub mod Gather

@@ -13,7 +13,6 @@ use Rattle.model_log.specs.declared.layout.TheConstants.{HEADER_BYTES}
 use Rattle.redo_disk.specs.{AreReads, Call, MakesCalls, MayEndWith}
 use Rattle.redo_disk.specs.Seen.{Seen}
 use Rattle.redo_disk.specs.declared.error.DevError.{DevError}
-use Rattle.redo_store.specs.Part.{Part}
 use Rattle.redo_open.specs.Devices.{IsNotOpened, IsOpenFault, OpensFrom, WhereBothTell}
 use Rattle.redo_open.specs.Formatting.{WritesInside}
 use Rattle.redo_store.specs.{IsRunnable}
@@ -81,17 +80,25 @@ pub record HasFaultCause (log data_device log_after data_after : Seen) (fault : 
   pub log_failed : fault ≡ LogDev → HasRisen log.faults log_after.faults
   pub data_failed : fault ≡ DataDev → HasRisen data_device.faults data_after.faults
 
--- A run was started on both devices, or memory ran out and they are handed back.
-pub record IsRunOn {L D : Type 0} (log : L) (store : Part D) (recovered : Recovered) (start : ℕ) (opened : Opened L D) : Type 0 where
-  pub shape : opened.shape ≡ recovered.shape
+-- A run was started on both devices, with the shape that it has, or memory ran out and they are handed back.
+pub record IsRunOn {L D : Type 0} (log : L) (data_device : D) (recovered : Recovered) (start : ℕ)
+    (opened : Opened L D) : Type 0 where
+  pub shape : opened.shape ≡ run_shape recovered.shape
   pub start_is : opened.start ≡ start
   pub pages : opened.pages ≡ recovered.pages
-  pub log_part : opened.log ≡ record { dev = log; shape = recovered.shape; marks = first_marks start ((recovered.number + numbers_taken recovered.format) % 2 ^ 64); tails = first_tails start; failed = None }
-  pub data_part : opened.store ≡ store
+  pub log_part : opened.log ≡ record {
+    dev = log;
+    shape = run_shape recovered.shape;
+    marks = first_marks start
+        ((recovered.number + numbers_taken recovered.format) % 2 ^ 64);
+    tails = first_tails start;
+    failed = None;
+  }
+  pub data_part : opened.store ≡ record { dev = data_device; shape = run_shape recovered.shape; failed = None }
 
-abbrev pub IsStarted : {L D : Type 0} → L → Part D → Recovered → ℕ → OpenResult L D → Type 0
-IsStarted log store recovered start (Ok opened) = IsRunOn log store recovered start opened
-IsStarted log store recovered start (Err error) = (error.0 ≡ NoMemory) × (error.1 ≡ log) × (error.2 ≡ store.dev)
+abbrev pub IsStarted : {L D : Type 0} → L → D → Recovered → ℕ → OpenResult L D → Type 0
+IsStarted log data_device recovered start (Ok opened) = IsRunOn log data_device recovered start opened
+IsStarted log data_device recovered start (Err error) = (error.0 ≡ NoMemory) × (error.1 ≡ log) × (error.2 ≡ data_device)
 
 -- the device isn't as it was handed in any more, or nothing was unsynced in it then
 abbrev pub IsSyncedSince : Disk → Disk → Type 0

@@ -1,7 +1,9 @@
 // Opening a store.
 ghost use Rattle.std.specs.Prelude.{◌≡◌, ◌≤◌, ◌<◌, ◌^◌, IfOk, IfErr, IfSome, None};
-ghost use Rattle.model_base.specs.declared.limits.TheConstants.{FIRST_DATA_LSN, MAX_LOG_BLOCKS, MIN_LOG_BLOCKS};
+ghost use Rattle.model_base.specs.{IsWithinLimits, run_shape};
+ghost use Rattle.model_base.specs.declared.limits.TheConstants.{FIRST_DATA_LSN};
 ghost use Rattle.model_log.specs.{IsAtDataStart, log_device_length};
+ghost use Rattle.model_page.specs.{data_device_length};
 ghost use Rattle.model_parts.specs.{numbers_taken};
 ghost use Rattle.model_store.specs.{IsOrderly};
 ghost use Rattle.model_store.specs.Reading.{Reading};
@@ -13,13 +15,13 @@ ghost use Rattle.redo_open.specs.Opening.{log_device_left, data_device_left, log
 ghost use Rattle.redo_store.specs.{IsRunnable};
 ghost use Rattle.redo_recover.specs.{AreFoundOn, IsOfDevices, OnContents, reading_of};
 
-use crate::devices::open_devices;
+use crate::devices::{enlarge_devices, open_devices};
 use crate::heads::{make_alike, read_heads};
 use model_log::Format;
 use redo_disk::Sectors;
 use redo_logdev::LogPart;
 use redo_lsn::start_after;
-use redo_recover::{RecFault, Recovered, data_fault, log_fault, recover};
+use redo_recover::{RecFault, Recovered, check_lengths, data_fault, log_fault, recover};
 use redo_store::{DataPart, Opened};
 use std::alloc::Global;
 
@@ -33,21 +35,21 @@ fn numbers_taken(format: Format) -> u64
     }
 }
 
-/// What a run takes, once both devices are ready for it. The log part is made last.
+/// What a run takes, once both devices are ready for it: it has the shape of a run. The log part is made last.
 fn start_run<L: Sectors, D: Sectors>(
     alloc: Global,
     log: L,
-    store: DataPart<D>,
+    data_device: D,
     recovered: Recovered,
     start: u64,
 ) -> Result<Opened<L, D>, (RecFault, L, D)>
-    requires long { log_device_length recovered.shape ≤ (L.seen log).size }
-    requires many_blocks { MIN_LOG_BLOCKS ≤ recovered.shape.log_blocks }
-    requires few_blocks { recovered.shape.log_blocks ≤ MAX_LOG_BLOCKS }
+    requires limits { IsWithinLimits recovered.shape }
+    requires log_long { log_device_length recovered.shape ≤ (L.seen log).size }
+    requires data_long { data_device_length (run_shape recovered.shape) ≤ (D.seen data_device).size }
     requires place { IsAtDataStart start }
     requires first { FIRST_DATA_LSN ≤ start }
     requires small { start < 2 ^ 61 }
-    ensures { IsStarted log store recovered start result }
+    ensures { IsStarted log data_device recovered start result }
 {
     let Recovered {
         format,
@@ -56,10 +58,15 @@ fn start_run<L: Sectors, D: Sectors>(
         pages,
         ..
     } = recovered;
+    let run = shape.run_shape();
+    let store = match DataPart::new(alloc, data_device, &run) {
+        Ok(store) => store,
+        Err((_, data_device)) => return Err((RecFault::NoMemory, log, data_device)),
+    };
     let number = number.wrapping_add(numbers_taken(format));
-    match LogPart::new(alloc, log, &shape, start, number) {
+    match LogPart::new(alloc, log, &run, start, number) {
         Ok(log) => Ok(Opened {
-            shape,
+            shape: run,
             start,
             pages,
             log,
@@ -77,13 +84,14 @@ fn open_recovered<L: Sectors, D: Sectors>(
     recovered: Recovered,
 ) -> Result<Opened<L, D>, (RecFault, L, D)>
     requires of_devices { IsOfDevices (L.seen log).size (D.seen data_device).size recovered }
+    requires room { data_device_length (run_shape recovered.shape) ≤ (D.seen data_device).size }
     requires settled { IfSome (D.seen data_device).tells (IsSettledData recovered.shape) }
     requires found { IfSome (D.seen data_device).tells
         (λ disk. AreFoundOn recovered.shape recovered.places recovered.pages disk.base) }
     ensures step { OpensRecovered L.seen D.seen (reading_of recovered) recovered.tail (L.seen log) (D.seen data_device) result }
     ensures called { AreCalled L.seen D.seen L.gives D.gives (MayEndWith (log_error_in result)) (MayEndWith (data_error_in result))
         log (log_device_left result) data_device (data_device_left result) }
-    ensures inside { WritesInside L.gives D.gives recovered.shape log (log_device_left result) data_device (data_device_left result) }
+    ensures inside { WritesInside L.gives D.gives (run_shape recovered.shape) log (log_device_left result) data_device (data_device_left result) }
 {
     let mut store = match DataPart::new(alloc, data_device, &recovered.shape) {
         Ok(store) => store,
@@ -94,14 +102,23 @@ fn open_recovered<L: Sectors, D: Sectors>(
         Ok(()) => {}
         Err(fault) => return Err((fault, log, store.into_dev())),
     }
-    start_run(alloc, log, store, recovered, start)
+    let mut data_device = store.into_dev();
+    match enlarge_devices(&mut log, &mut data_device, &recovered) {
+        Ok(()) => {}
+        Err(fault) => return Err((fault, log, data_device)),
+    }
+    start_run(alloc, log, data_device, recovered, start)
 }
 
 /// Opens the store on two devices, so that a run can start on it: reads it, makes its two header blocks alike, clears away
 /// what stands on the log past its end, repairs the places of pages that don't pass, writes each page as it was read where
-/// that isn't in its place then, moves the checkpoint, and takes a store of format 1 to format 2. A store that is refused
-/// is as it was. Where it opens, or the devices tell what they hold to the end, nothing is written beyond the lengths that the store's
-/// shape asks for, and nothing is read once the store is.
+/// that isn't in its place then, moves the checkpoint, and takes a store of format 1 to format 2. A store that doesn't have the
+/// slots of format 3 is taken to that format then: the new slots are filled with zeros that aren't among its old slots and
+/// places, each page is written into its new place, and the header comes last, into its first block last of all.
+///
+/// A store that is refused is as it was; so is one of an earlier format whose data device is too short for format 3, for which
+/// the length that it asks for is answered. Where it opens, or the devices tell what they hold to the end, nothing is written
+/// beyond the lengths that the shape of a run asks for, and nothing is read once the store is.
 ///
 /// What the devices were handed in with unsynced is read like the rest, and may be lost until it is synced: so both
 /// are synced before the first write. From then on, and where nothing was unsynced from the start, whatever a crash
@@ -129,6 +146,10 @@ pub fn open_store<L: Sectors, D: Sectors>(
         Ok(recovered) => recovered,
         Err(fault) => return Err((fault, log, data_device)),
     };
+    match check_lengths(&recovered.shape.run_shape(), log.len(), data_device.len()) {
+        Ok(()) => {}
+        Err(fault) => return Err((fault, log, data_device)),
+    }
     let heads = match read_heads(&mut log, recovered.format, &recovered.shape) {
         Ok(heads) => heads,
         Err(error) => return Err((log_fault(error), log, data_device)),

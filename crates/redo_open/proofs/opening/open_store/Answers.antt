@@ -1,18 +1,20 @@
 -- The store is read and opened.
-use Rattle.std.proofs.Common.{◌≡◌, ◌∙◌, Option, Err, refl, sym, ap, subst, arith}
+use Rattle.std.proofs.Common.{◌≡◌, ◌∙◌, ◌≤◌, ℕ, Option, Err, refl, sym, ap, subst, arith}
 use Rattle.std.specs.Prelude.{Result}
+use Rattle.model_base.specs.{run_shape}
 use Rattle.model_base.specs.declared.shape.Shape.{Shape}
 use Rattle.model_device.specs.{IsWithin}
 use Rattle.model_device.specs.Disk.{Disk}
 use Rattle.model_log.specs.{log_device_length}
+use Rattle.model_page.specs.{data_device_length}
 use Rattle.model_log.specs.declared.head.Format.{Format}
 use Rattle.model_store.specs.Reading.{Reading}
-use Rattle.redo_disk.specs.{Call, error_of, MakesCalls, part}
+use Rattle.redo_disk.specs.{Call, error_of, MakesCalls, MayEndWith, part}
 use Rattle.redo_disk.specs.declared.error.DevError.{DevError}
 use Rattle.redo_disk.proofs.Made.{call_ends, may_end}
 use Rattle.redo_disk.proofs.Told.{still-same, still-then}
 use Rattle.redo_open.specs.Heads.{PutsHead}
-use Rattle.redo_open.specs.Opening.{OpensSafely, data_device_left, log_device_left}
+use Rattle.redo_open.specs.Opening.{HasOpeningCauseIn, OpensLog, OpensSafely, data_device_left, log_device_left}
 use Rattle.redo_open.specs.Places.{IsPageFault}
 use Rattle.redo_open.specs.Puts.{ArePuts, PutsWhere}
 use Rattle.redo_open.proofs.Asked.{beside_log, beside_pages, data_ends, log_ends, may_end_then, opens_log, opens_then, reads_end}
@@ -21,20 +23,30 @@ use Rattle.redo_open.proofs.Entry.{unwritten-safely, unwritten-still, unwritten-
 use Rattle.redo_open.proofs.Headed.{AreSynced, failed-keeps, failed-unmoved, opened-alike}
 use Rattle.redo_open.proofs.Inside.{data_reads, ends_of, log_reads, puts_behind, puts_of, read-inside, unopened-inside, within-longer}
 use Rattle.redo_open.proofs.Puts.{put_nothing, put_one, put_weaker}
-use Rattle.redo_open.proofs.Stores.{also-refused, err-safely, heads-cause, opening-cause, opening-of, both-err, sync-cause, synced-holds}
-use Rattle.redo_open.proofs.Still.{content-same, contents-same, made-back, reading-back, same-back, still-equal, still-on, told-back}
+use Rattle.redo_open.proofs.Stores.{also-opening, also-refused, err-safely, heads-cause, IsReadWithRoom, IsReadWithSize, length-ends, opening-cause, opening-of, both-err, read-roomy, read-sized, room-cause, sync-cause, synced-holds}
+use Rattle.redo_open.proofs.Still.{content-same, contents-back, contents-same, made-back, reading-back, same-back, still-equal, still-on, told-back}
 use Rattle.redo_open.proofs.Told.{cause-since}
 use Rattle.redo_recover.proofs.Only.{log-fault, log-then}
 use Rattle.model_parts.specs.{found_layout}
 use Rattle.model_store.specs.{AreFoundIn, IsReading}
-use Rattle.redo_recover.specs.{AreFoundOn, data_error, HasCauseIn, log_error, reading_of}
+use Rattle.redo_recover.specs.{AreFoundOn, data_error, HasCauseIn, IsLengthFault, log_error, reading_of}
 use Rattle.redo_recover.specs.declared.fault.RecFault.{RecFault}
 use Rattle.redo_open.proofs.opening.open_store.Goals as goal
 
 -- a cause that is told of what was read is one of what the devices told at entry
-cause-same : (fault : RecFault) (log log_new data_told data_new : Option Disk) → log_new ≡ log → data_new ≡ data_told → HasCauseIn log_new data_new fault → HasCauseIn log data_told fault
+cause-same : (fault : RecFault) (log log_new data_told data_new : Option Disk) → log_new ≡ log → data_new ≡ data_told
+    → HasCauseIn log_new data_new fault
+    → HasOpeningCauseIn log data_told fault
 cause-same fault log log_new data_told data_new log_same data_same cause =
-    subst (λ (told : Option Disk). HasCauseIn log told fault) data_same (subst (λ (told : Option Disk). HasCauseIn told data_new fault) log_same cause)
+    subst (λ (told : Option Disk). HasOpeningCauseIn log told fault) data_same
+    (subst (λ (told : Option Disk). HasOpeningCauseIn told data_new fault) log_same
+    (also-opening fault log_new data_new cause))
+
+-- the room was judged on a device of this size
+had-room : (shape : Shape) {run : Shape} {len now size : ℕ} → run ≡ run_shape shape → len ≡ now
+    → data_device_length run ≤ len → now ≡ size → data_device_length (run_shape shape) ≤ size
+had-room shape {size = size} run_is len_is room same = subst (λ (s : Shape). data_device_length s ≤ size) run_is
+    (omega (arith, room, len_is, same))
 
 -- the header blocks lie within every store
 heads_inside : {L : Type 0} {gives : L → Call → L → Type 0} {old new : L} {error : Option DevError} {format : Format} {named : Shape} (shape : Shape)
@@ -51,6 +63,14 @@ returns-in-Err-clause-safely g c opened = λ log_on data_on.
     (c.in-Err.fault, c.recover.new.log, c.recover.new.data_device)
     (unwritten-still _ _ c.in-Err.ensures.log.unchanged.tells)
     (unwritten-still _ _ c.in-Err.ensures.data_device.unchanged.tells)
+
+pub returns-in-Err-check_lengths-clause-safely : goal.returns-in-Err-check_lengths-clause-safely
+returns-in-Err-check_lengths-clause-safely g c opened = λ log_on data_on.
+    unwritten-safely g.L.Sectors.seen g.D.Sectors.seen opened
+    (g.L.Sectors.seen c.args.log).tells (g.D.Sectors.seen c.args.data_device).tells
+    (c.in-Err-check_lengths.fault, c.recover.new.log, c.recover.new.data_device)
+    (unwritten-still _ _ c.in-Ok.ensures.log.unchanged.tells)
+    (unwritten-still _ _ c.in-Ok.ensures.data_device.unchanged.tells)
 
 pub returns-in-Err-read_heads-clause-safely : goal.returns-in-Err-read_heads-clause-safely
 returns-in-Err-read_heads-clause-safely g c opened = λ log_on data_on.
@@ -201,15 +221,47 @@ returns-in-Err-clause-cause g c = record {
   data_failed = λ is. c.in-Err.ensures.data_device.failed (ap data_error is);
 }
 
+-- what the code judged is what the devices have
+judged : (shape run : Shape) (fault : RecFault) (log_len data_len log_size data_size : ℕ) → run ≡ run_shape shape
+    → log_len ≡ log_size → data_len ≡ data_size
+    → IsLengthFault run log_len data_len fault → IsLengthFault (run_shape shape) log_size data_size fault
+judged shape run fault log_len data_len log_size data_size run_is log_is data_is is =
+    subst (λ (s : Shape). IsLengthFault s log_size data_size fault) run_is
+    (subst (λ n. IsLengthFault run n data_size fault) log_is
+    (subst (λ n. IsLengthFault run log_len n fault) data_is is))
+
+pub returns-in-Err-check_lengths-clause-cause : goal.returns-in-Err-check_lengths-clause-cause
+returns-in-Err-check_lengths-clause-cause g c =
+    let recovered = c.in-Ok.recovered in
+    let log = g.L.Sectors.seen c.args.log in
+    let data_device = g.D.Sectors.seen c.args.data_device in
+    room-cause log data_device (g.L.Sectors.seen c.recover.new.log) (g.D.Sectors.seen c.recover.new.data_device)
+    c.in-Err-check_lengths.fault (reading_of recovered)
+    c.in-Ok.ensures.recovered.of_devices.usable.log_long
+    (judged recovered.shape c.run_shape.result c.in-Err-check_lengths.fault c.len.result c.len-2.result log.size
+    data_device.size c.run_shape.ensures.shape
+    (c.len.ensures.size ∙ c.in-Ok.ensures.log.unchanged.size)
+    (c.len-2.ensures.size ∙ c.in-Ok.ensures.data_device.unchanged.size) c.in-Err-check_lengths.ensures.fault)
+    (λ log_still data_still.
+    contents-same (IsReadWithSize (reading_of recovered) data_device.size) _ _ _ _
+    (still-equal _ _ c.in-Ok.ensures.log.unchanged.tells log_still)
+    (still-equal _ _ c.in-Ok.ensures.data_device.unchanged.tells data_still)
+    (read-sized _ _ data_device.size (reading_of recovered) c.in-Ok.ensures.recovered.sized
+    c.in-Ok.ensures.recovered.read))
+    c.in-Ok.ensures.log.unchanged c.in-Ok.ensures.data_device.unchanged
+
 pub returns-in-Err-read_heads-clause-cause : goal.returns-in-Err-read_heads-clause-cause
 returns-in-Err-read_heads-clause-cause g c =
     let read = log-then _ _ _ _ c.in-Ok.ensures.log c.in-Err-read_heads.ensures.reads in
     heads-cause (g.L.Sectors.seen c.args.log) (g.D.Sectors.seen c.args.data_device)
     (g.L.Sectors.seen c.read_heads.new.log) (g.D.Sectors.seen c.recover.new.data_device)
     c.in-Err-read_heads.error c.log_fault.result (reading_of c.in-Ok.recovered) c.log_fault.ensures
-    (λ log_on data_on. reading-back (reading_of c.in-Ok.recovered) _ _ _ _ _ c.in-Ok.ensures.log.unchanged.tells
+    (λ log_on data_on. contents-back (IsReadWithRoom (reading_of c.in-Ok.recovered)) _ _ _ _ _
+    c.in-Ok.ensures.log.unchanged.tells
     c.in-Err-read_heads.ensures.reads.unchanged.tells c.in-Ok.ensures.data_device.unchanged.tells log_on data_on
-    c.in-Ok.ensures.recovered.read)
+    (read-roomy _ _ (g.D.Sectors.seen c.args.data_device).size (reading_of c.in-Ok.recovered)
+    (had-room c.in-Ok.recovered.shape c.run_shape.ensures.shape c.len-2.ensures.size c.in-Ok-check_lengths.ensures.fit.1
+    c.in-Ok.ensures.data_device.unchanged.size) c.in-Ok.ensures.recovered.sized c.in-Ok.ensures.recovered.read))
     (record { later = read.unchanged.later; failed = λ is. read.failed (ap (λ (result : Result (Unit {0}) DevError). error_of result) is) })
 
 pub returns-in-Err-sync-clause-cause : goal.returns-in-Err-sync-clause-cause
@@ -222,9 +274,11 @@ returns-in-Err-sync-clause-cause g c =
     c.in-Err-sync.error fault.result (reading_of c.in-Ok.recovered) fault.ensures
     (λ log_on data_told.
     let log_told = same-back _ _ c.in-Err-sync.ensures.step.err log_on in
-    reading-back (reading_of c.in-Ok.recovered) _ _ _ _ _ c.in-Ok.ensures.log.unchanged.tells
+    contents-back (IsReadWithRoom (reading_of c.in-Ok.recovered)) _ _ _ _ _ c.in-Ok.ensures.log.unchanged.tells
     c.in-Ok-read_heads.ensures.reads.unchanged.tells c.in-Ok.ensures.data_device.unchanged.tells log_told data_told
-    c.in-Ok.ensures.recovered.read)
+    (read-roomy _ _ (g.D.Sectors.seen c.args.data_device).size (reading_of c.in-Ok.recovered)
+    (had-room c.in-Ok.recovered.shape c.run_shape.ensures.shape c.len-2.ensures.size c.in-Ok-check_lengths.ensures.fit.1
+    c.in-Ok.ensures.data_device.unchanged.size) c.in-Ok.ensures.recovered.sized c.in-Ok.ensures.recovered.read))
     (cause-since _ _ _ (Err c.in-Err-sync.error) (omega (arith, recovery, read)) c.in-Err-sync.ensures.step.cause)
 
 pub returns-in-Err-sync-2-clause-cause : goal.returns-in-Err-sync-2-clause-cause
@@ -235,9 +289,11 @@ returns-in-Err-sync-2-clause-cause g c =
     (λ log_on data_on.
     let log_told = told-back _ _ _ c.in-Ok-sync.ensures.step.ok log_on in
     let data_told = same-back _ _ c.in-Err-sync-2.ensures.step.err data_on in
-    reading-back (reading_of c.in-Ok.recovered) _ _ _ _ _ c.in-Ok.ensures.log.unchanged.tells
+    contents-back (IsReadWithRoom (reading_of c.in-Ok.recovered)) _ _ _ _ _ c.in-Ok.ensures.log.unchanged.tells
     c.in-Ok-read_heads.ensures.reads.unchanged.tells c.in-Ok.ensures.data_device.unchanged.tells log_told data_told
-    c.in-Ok.ensures.recovered.read)
+    (read-roomy _ _ (g.D.Sectors.seen c.args.data_device).size (reading_of c.in-Ok.recovered)
+    (had-room c.in-Ok.recovered.shape c.run_shape.ensures.shape c.len-2.ensures.size c.in-Ok-check_lengths.ensures.fit.1
+    c.in-Ok.ensures.data_device.unchanged.size) c.in-Ok.ensures.recovered.sized c.in-Ok.ensures.recovered.read))
     (cause-since _ _ _ (Err c.in-Err-sync-2.error) c.in-Ok.ensures.data_device.unchanged.later
     c.in-Err-sync-2.ensures.step.cause)
 
@@ -254,9 +310,11 @@ returns-in-Err-make_alike-clause-cause g c =
     let log_mid = told-back _ _ _ c.in-Err-make_alike.ensures.step.keeps log_on in
     let log_told = told-back _ _ _ c.in-Ok-sync.ensures.step.ok log_mid in
     let data_told = told-back _ _ _ c.in-Ok-sync-2.ensures.step.ok data_on in
-    reading-back (reading_of c.in-Ok.recovered) _ _ _ _ _ c.in-Ok.ensures.log.unchanged.tells
+    contents-back (IsReadWithRoom (reading_of c.in-Ok.recovered)) _ _ _ _ _ c.in-Ok.ensures.log.unchanged.tells
     c.in-Ok-read_heads.ensures.reads.unchanged.tells c.in-Ok.ensures.data_device.unchanged.tells log_told data_told
-    c.in-Ok.ensures.recovered.read)
+    (read-roomy _ _ (g.D.Sectors.seen c.args.data_device).size (reading_of c.in-Ok.recovered)
+    (had-room c.in-Ok.recovered.shape c.run_shape.ensures.shape c.len-2.ensures.size c.in-Ok-check_lengths.ensures.fit.1
+    c.in-Ok.ensures.data_device.unchanged.size) c.in-Ok.ensures.recovered.sized c.in-Ok.ensures.recovered.read))
     (cause-since _ _ _ (Err c.in-Err-make_alike.error) (omega (arith, recovery, read, synced))
     c.in-Err-make_alike.ensures.step.cause)
 
@@ -275,9 +333,11 @@ returns-clause-cause g c =
     let log_told = told-back _ _ _ c.in-Ok-sync.ensures.step.ok
     (told-back _ _ _ c.in-Ok-make_alike.ensures.step.keeps log_left) in
     let data_told = told-back _ _ _ c.in-Ok-sync-2.ensures.step.ok data_left in
-    reading-back (reading_of c.in-Ok.recovered) _ _ _ _ _ c.in-Ok.ensures.log.unchanged.tells
+    contents-back (IsReadWithRoom (reading_of c.in-Ok.recovered)) _ _ _ _ _ c.in-Ok.ensures.log.unchanged.tells
     c.in-Ok-read_heads.ensures.reads.unchanged.tells c.in-Ok.ensures.data_device.unchanged.tells log_told data_told
-    c.in-Ok.ensures.recovered.read)
+    (read-roomy _ _ (g.D.Sectors.seen c.args.data_device).size (reading_of c.in-Ok.recovered)
+    (had-room c.in-Ok.recovered.shape c.run_shape.ensures.shape c.len-2.ensures.size c.in-Ok-check_lengths.ensures.fit.1
+    c.in-Ok.ensures.data_device.unchanged.size) c.in-Ok.ensures.recovered.sized c.in-Ok.ensures.recovered.read))
     (omega (
       arith,
       c.in-Ok.ensures.log.unchanged.later,
@@ -300,6 +360,26 @@ returns-in-Err-clause-called g c =
       data_device = record { size = c.in-Err.ensures.data_device.unchanged.size; later = c.in-Err.ensures.data_device.unchanged.later };
       log_calls = opens_log c.in-Err.ensures.log.calls;
       data_calls = reads_end c.in-Err.ensures.data_device.calls;
+    }
+
+pub returns-in-Err-check_lengths-clause-called : goal.returns-in-Err-check_lengths-clause-called
+returns-in-Err-check_lengths-clause-called g c =
+    let fault = c.in-Err-check_lengths.fault in
+    let none = length-ends c.run_shape.result c.len.result c.len-2.result fault c.in-Err-check_lengths.ensures.fault in
+    record {
+      log = record { size = c.in-Ok.ensures.log.unchanged.size; later = c.in-Ok.ensures.log.unchanged.later };
+      data_device = record {
+        size = c.in-Ok.ensures.data_device.unchanged.size;
+        later =
+            c.in-Ok.ensures.data_device.unchanged.later;
+      };
+      log_calls = subst (λ (error : Option DevError). MakesCalls g.L.Sectors.gives c.args.log c.recover.new.log
+          (OpensLog (g.L.Sectors.seen c.args.log).size error)) (sym none.0)
+          (opens_log c.in-Ok.ensures.log.calls);
+      data_calls = subst
+          (λ (error : Option DevError). MakesCalls g.D.Sectors.gives c.args.data_device c.recover.new.data_device
+          (MayEndWith error)) (sym none.1)
+          (reads_end c.in-Ok.ensures.data_device.calls);
     }
 
 pub returns-in-Err-read_heads-clause-called : goal.returns-in-Err-read_heads-clause-called
@@ -416,6 +496,22 @@ returns-in-Err-clause-inside g c =
       };
     })
 
+pub returns-in-Err-check_lengths-clause-inside : goal.returns-in-Err-check_lengths-clause-inside
+returns-in-Err-check_lengths-clause-inside g c =
+    unopened-inside g.L.Sectors.gives g.D.Sectors.gives (g.L.Sectors.seen c.args.log).tells
+    (g.D.Sectors.seen c.args.data_device).tells _ _ c.args.log c.args.data_device
+    (c.in-Err-check_lengths.fault, c.recover.new.log, c.recover.new.data_device)
+    (λ shape. record {
+      log_read = c.recover.new.log;
+      data_read = c.recover.new.data_device;
+      log = log_reads c.in-Ok.ensures.log.calls;
+      data_device = data_reads c.in-Ok.ensures.data_device.calls;
+      inside = record {
+        log = puts_of (put_nothing g.L.Sectors.gives c.recover.new.log);
+        data_device = puts_of (put_nothing g.D.Sectors.gives c.recover.new.data_device);
+      };
+    })
+
 pub returns-in-Err-read_heads-clause-inside : goal.returns-in-Err-read_heads-clause-inside
 returns-in-Err-read_heads-clause-inside g c =
     let read = log-then _ _ _ _ c.in-Ok.ensures.log c.in-Err-read_heads.ensures.reads in
@@ -510,7 +606,7 @@ returns-clause-inside g c =
       data_device = data_reads c.in-Ok.ensures.data_device.calls;
       inside = record {
         log = puts_behind (puts_of (put_one tt c.in-Ok-sync.ensures.gives))
-            (puts_behind (heads_inside c.in-Ok.recovered.shape c.in-Ok-make_alike.ensures.calls)
+            (puts_behind (heads_inside (run_shape c.in-Ok.recovered.shape) c.in-Ok-make_alike.ensures.calls)
             c.open_recovered.ensures.inside.log);
         data_device = puts_behind (puts_of (put_one tt c.in-Ok-sync-2.ensures.gives))
             c.open_recovered.ensures.inside.data_device;
