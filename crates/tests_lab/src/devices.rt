@@ -162,26 +162,33 @@ fn put_checkpoint(log: &mut MemDisk, number: u64, lsn: u64) -> Result<(), DevErr
     put_checkpoint_by(log, Format::Two, number, lsn)
 }
 
-/// The header of format 1, of the default sizes but for its slots.
-fn first_head() -> [u8; 512] {
+/// The header of an earlier format, of the default sizes but for its slots.
+fn early_head(format: Format) -> [u8; 512] {
     let mut head = [0; 512];
     let shape = Shape {
         slots: EARLY_SLOTS,
         ..Shape::default_shape()
     };
-    fill_head(&mut head, Format::One, &shape);
+    fill_head(&mut head, format, &shape);
     head
 }
 
 /// The log of a store of format 1 on which `1 f b1 3 100 7` was run: its header, its newest checkpoint, and its first block,
 /// which stands where format 2 has a tail block.
 fn put_first_format(log: &mut MemDisk) -> Result<(), DevError> {
-    put(log, 0, &first_head())?;
+    put(log, 0, &early_head(Format::One))?;
     put(log, SECOND_HEAD, &[0; 512])?;
     put_checkpoint_by(log, Format::One, 1, 8192)?;
     let mut block = [0; 512];
     fill(&mut block, 8192, &[0x81, 1, 3, 0, 100, 7], 12, 1);
     put(log, FIRST_TAIL, &block)
+}
+
+/// The log of a store of format 2: of one of format 3 on which the log alone was written, it has other headers.
+fn put_second_format(log: &mut MemDisk) -> Result<(), DevError> {
+    let head = early_head(Format::Two);
+    put(log, 0, &head)?;
+    put(log, SECOND_HEAD, &head)
 }
 
 /// A checkpoint at the second block, and that block with no group in it.
@@ -277,6 +284,7 @@ pub(crate) fn shorten(alloc: Global, devices: &mut MemDevices, name: &str) -> Re
 pub(crate) fn change(devices: &mut MemDevices, name: &str) -> Result<(), DevError> {
     match name {
         "first format" => put_first_format(&mut devices.log),
+        "second format" => put_second_format(&mut devices.log),
         "first head lost" => put(&mut devices.log, 0, &[1; 512]),
         "second head lost" => put(&mut devices.log, SECOND_HEAD, &[1; 512]),
         "no first head" => put(&mut devices.log, 0, &[0; 512]),

@@ -24,8 +24,8 @@ pub const SHAPE: Shape = Shape {
 };
 /// Bytes of the log device.
 pub const LOG: usize = 526_336;
-/// Bytes of the data device.
-pub const DATA: usize = 4096 * 11;
+/// Bytes of the data device: there is room for a run, which has 128 slots.
+pub const DATA: usize = 4096 * 131;
 /// How a group begins that puts 489 bytes at offset 38 of page 1; it has 496 bytes.
 pub const WHOLE: [u8; 7] = [0x9E, 1, 1, 0, 38, 1, 0xE9];
 /// A group of 6 bytes: the byte 7 goes to offset 100 of page 0.
@@ -183,6 +183,18 @@ fn put_log(store: &mut Store) {
     store.put_block(&SHAPE, 1, last + 2048, &full(&WHOLE, 9), true);
 }
 
+/// Writes sound pages where a run has slots and places and a store of an earlier format with so many pages has none: the last
+/// page in the first and the last of those slots, and each page in its place, all above the end of the log.
+fn put_others(store: &mut Store, pages: u8) {
+    let pages = u16::from(pages);
+    let last = u32::from(pages).saturating_sub(1);
+    store.put_page(8 + pages, last, 600_000, 9);
+    store.put_page(127, last, 600_000, 9);
+    for page in 0..pages {
+        store.put_page(128 + page, u32::from(page), 600_000, 9);
+    }
+}
+
 /// A store that its last run left in the middle. The place of page 0 is torn, and two copies of it stand in slots; the
 /// place of page 1 has none of the log's groups; page 2 is in its place.
 pub fn torn_store(alloc: Global, format: Format) -> Result<Store, Fail> {
@@ -197,6 +209,7 @@ pub fn torn_store(alloc: Global, format: Format) -> Result<Store, Fail> {
     store.put_page_byte(8, 2048, 1);
     store.put_page(9, 1, 9000, 4);
     store.put_page(10, 2, 9000, 8);
+    put_others(&mut store, 3);
     Ok(store)
 }
 
@@ -238,5 +251,6 @@ pub fn group_store(alloc: Global, format: Format) -> Result<Store, AllocError> {
     let mut store = zeros(alloc, format)?;
     store.put_head(&FOUR);
     put_group(&mut store);
+    put_others(&mut store, 4);
     Ok(store)
 }

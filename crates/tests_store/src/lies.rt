@@ -77,8 +77,8 @@ const READS: u64 = 6;
 /// a sync comes; the header is put into block 2; blocks are cleared, and the store is migrated.
 const CALLS: u64 = (1 + 1) + 1 + 1 + 2 + (8 + 1) + MIGRATION_CALLS;
 
-/// The last of them, which put the second checkpoint and the header of format 2 into blocks 2 and 0.
-const LAST_CALLS: u64 = 3 * 2;
+/// The last of them, which put the second checkpoint, the header of format 2 into blocks 2 and 0, and that of format 3.
+const LAST_CALLS: u64 = (1 + 2 + 2) * 2;
 
 /// The devices of this store, after opening that was stopped after so many calls of the log device, or that never was.
 fn devices_after(
@@ -139,7 +139,7 @@ fn a_lie_takes_no_header_beside_a_damaged_one(rt: HostRuntime) -> Result<(), Fai
     Ok(())
 }
 
-/// In format 1 the header stands in the first block alone. While migration comes to its end there is that of format 2 too.
+/// In format 1 the header stands in the first block alone. While migration comes to its end there are those of two formats.
 #[test]
 fn a_lie_takes_no_header_of_format_1(rt: HostRuntime) -> Result<(), Fail> {
     let store = group_store(rt.alloc(), Format::One)?;

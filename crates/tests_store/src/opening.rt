@@ -141,8 +141,9 @@ fn a_formatted_store_is_blank(rt: HostRuntime) -> Result<(), Fail> {
 }
 
 /// How many calls of the log device it takes to open the formatted store: four of reading, a sync, two writes of tail
-/// blocks and a sync, eight writes of 128 blocks at the most and a sync, and two for the checkpoint.
-const CALLS: u64 = 4 + 1 + (2 + 1) + (8 + 1) + 2;
+/// blocks and a sync, eight writes of 128 blocks at the most and a sync, two for the checkpoint, and two for the header of
+/// format 3 in each of its blocks.
+const CALLS: u64 = 4 + 1 + (2 + 1) + (8 + 1) + 2 + 2 * 2;
 
 /// Of three groups a crash loses the second, and the third stands after the log's end. Opening takes it away: a new group
 /// where the second stood is read alone.
@@ -185,15 +186,35 @@ fn a_full_block_without_a_group_is_passed(rt: HostRuntime) -> Result<(), Fail> {
     Ok(())
 }
 
-/// A store of format 1 is one of format 2 once it is opened, under the second checkpoint after the one that was found.
+/// Sees that a store of this format with one group on its log, of which the first text is told, is one of format 3 once it is
+/// opened, under the checkpoint of this number: page 3 has the group, and the others were never written. What stood in the
+/// slots and places of a run before counts no more: where the place of page 3 is broken, its copy is the one that opening
+/// wrote.
+fn see_migration(
+    rt: &(impl Abort + AllocGlobal),
+    format: Format,
+    before: &str,
+    number: u64,
+) -> Result<(), Fail> {
+    let store = group_store(rt.alloc(), format)?;
+    see(rt, &store, before)?;
+    assert!(rt; start_of(rt.alloc(), &store)? == (8716, 8716, 8716, number));
+    let after = format!(in rt.alloc();
+        "(Three, [4096, 4, 1, 1024, 128], {number}, 8704) (0, 0, None, 8716) 4 [3 8210 7;]"
+    )?;
+    let mut left = opened_once(rt.alloc(), &store)?;
+    see(rt, &left, &after)?;
+    left.put_page_byte(131, 2048, 1);
+    see(rt, &left, &after)
+}
+
+/// A store of format 1 takes two checkpoints more, and one of format 2 takes one.
 #[test]
-fn a_store_of_format_1_becomes_one_of_format_2(rt: HostRuntime) -> Result<(), Fail> {
-    let store = group_store(rt.alloc(), Format::One)?;
-    let before = "(One, [4096, 4, 1, 1024, 8], 1, 8192) (1, 1, Some(8204), 8210)";
-    see(&rt, &store, before)?;
-    assert!(rt; start_of(rt.alloc(), &store)? == (8716, 8716, 8716, 3));
-    let after = "(Two, [4096, 4, 1, 1024, 8], 3, 8704) (0, 0, None, 8716) 4 [3 8210 7;]";
-    see(&rt, &opened_once(rt.alloc(), &store)?, after)
+fn a_store_of_an_earlier_format_becomes_one_of_format_3(rt: HostRuntime) -> Result<(), Fail> {
+    let one = "(One, [4096, 4, 1, 1024, 8], 1, 8192) (1, 1, Some(8204), 8210)";
+    see_migration(&rt, Format::One, one, 3)?;
+    let two = "(Two, [4096, 4, 1, 1024, 8], 1, 8192) (1, 1, Some(8204), 8210)";
+    see_migration(&rt, Format::Two, two, 2)
 }
 
 /// How many blocks are full between the start of a run at 8716 and the block that comes into the place of 8192's.
@@ -252,5 +273,26 @@ fn a_refused_store_stays_as_it_was(rt: HostRuntime) -> Result<(), Fail> {
     assert!(rt; is_refused(alloc, &store, RecFault::BadRecord(8204))?);
     store.put_sealed(0, &[1]);
     assert!(rt; is_refused(alloc, &store, RecFault::BadFormat(0x0100_0002))?);
+    Ok(())
+}
+
+/// A store of an earlier format whose data device is shorter than 132 pages, which a run on it asks for, is read, and opening
+/// refuses it. Its two header blocks aren't alike, and stay so.
+#[test]
+fn a_store_without_room_for_a_run_is_refused(rt: HostRuntime) -> Result<(), Fail> {
+    let alloc = rt.alloc();
+    for (format, length) in [
+        (Format::One, 49_152),
+        (Format::One, 540_160),
+        (Format::Two, 49_152),
+        (Format::Two, 540_160),
+    ] {
+        let mut store = group_store(alloc, format)?;
+        store.put_log_byte(1_044, 9);
+        store.data.truncate(length);
+        store.data_length = length as u64;
+        see(&rt, &store, "4 [3 8210 7;]")?;
+        assert!(rt; is_refused(alloc, &store, RecFault::SmallData(540_672))?);
+    }
     Ok(())
 }

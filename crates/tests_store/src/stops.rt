@@ -63,7 +63,7 @@ fn told_at(
 }
 
 /// Sees that opening with such a stop ends with this fault and leaves these pages, and that opening once more leaves them
-/// too, by format 2 and with no group to be read.
+/// too, by format 3 and with no group to be read.
 fn see_stop(
     rt: &(impl Abort + AllocGlobal),
     store: &Store,
@@ -75,7 +75,7 @@ fn see_stop(
     let devices = store.devices_with(rt.alloc(), TEARING, TEARING)?;
     let (stopped, opened, fault) = told_at(rt.alloc(), devices, limits, pick)?;
     let is_kept = stopped.ends_with(kept.pages) && opened.ends_with(kept.pages);
-    let is_opened = opened.contains("\n(Two, ") && opened.contains(kept.start);
+    let is_opened = opened.contains("\n(Three, ") && opened.contains(kept.start);
     assert!(rt;
         is_kept && is_opened && fault == want,
         "{fault:?} at {limits:?} with the pick {pick}: {stopped}, {opened}"
@@ -111,23 +111,27 @@ fn torn_kept(format: Format) -> Kept<'static> {
     }
 }
 
+/// The calls that take a store to format 3: the header is written into both its blocks, and synced each time.
+const RUN_CALLS: u64 = 2 * 2;
+
 /// The calls of the log device for the torn store of format 2: the header is read, two stretches of blocks, of which one
 /// goes to the log's end, and the tail blocks; then the header blocks, which are alike, and a sync comes before the
 /// first write. One tail block is cleared, and synced; then 1,020 blocks by writes of 128 at the most, the place of the
 /// block in the other tail block, and that one, and synced; and the checkpoint is written and synced.
-const TORN_CALLS: u64 = (1 + 2 + 1) + 1 + 1 + (1 + 1) + (8 + 2 + 1) + 2;
+const TORN_CALLS: u64 = (1 + 2 + 1) + 1 + 1 + (1 + 1) + (8 + 2 + 1) + 2 + RUN_CALLS;
 
 /// The calls for a store of format 1 after that of the blocks, of which 1,022 or 1,023 are cleared: the first checkpoint is
-/// written and synced; all 1,024 blocks are cleared by writes of 128, and synced; and the second checkpoint and the header
-/// in both its blocks are written and synced.
-pub const MIGRATION_CALLS: u64 = 2 + (8 + 1) + 3 * 2;
+/// written and synced; all 1,024 blocks are cleared by writes of 128, and synced; the second checkpoint and the header
+/// of format 2 in both its blocks are written and synced; and the store is taken to format 3.
+pub const MIGRATION_CALLS: u64 = 2 + (8 + 1) + 3 * 2 + RUN_CALLS;
 
 /// Those for the torn store of format 1, of which no header stands in block 2.
 const OLD_CALLS: u64 = (1 + 2) + 1 + 1 + 2 + (8 + 1) + MIGRATION_CALLS;
 
 /// The calls of the data device: the slots and three places are read; after a sync one place is repaired, by a write and a
-/// sync, and two pages are written by five calls.
-const DATA_CALLS: u64 = (1 + 3) + 1 + 2 + 5;
+/// sync, and two pages are written by five calls. Then the 117 slots are filled with zeros that come after the old slots and
+/// places, 16 by a write, and the three pages are written to their new places, and synced.
+const DATA_CALLS: u64 = (1 + 3) + 1 + 2 + 5 + (8 + 3 + 1);
 
 #[test]
 fn a_stop_of_the_log_device_leaves_the_pages(rt: HostRuntime) -> Result<(), Fail> {
@@ -170,7 +174,7 @@ fn a_stop_shows_no_shorter_tail_block(rt: HostRuntime) -> Result<(), Fail> {
         pages: "4 []",
         start: "(0, 0, None, 8204)",
     };
-    let calls = (1 + 1 + 1) + 1 + 1 + (1 + 1) + (8 + 2 + 1) + 2;
+    let calls = (1 + 1 + 1) + 1 + 1 + (1 + 1) + (8 + 2 + 1) + 2 + RUN_CALLS;
     see_log_stops(&rt, &store, calls, kept)
 }
 

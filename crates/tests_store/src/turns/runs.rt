@@ -3,7 +3,7 @@ ghost use Rattle.redo_machine.specs.Appending.{IsOnRun};
 
 use super::store::{machine_on, no_followers, opened};
 use crate::fixtures::read;
-use model_base::{EARLY_SLOTS, PAGE_SIZE};
+use model_base::{PAGE_SIZE, SLOTS};
 use model_report::History;
 use redo_apply::Pages;
 use redo_disk::{DevError, Sectors};
@@ -187,7 +187,7 @@ fn full_pages(alloc: Global, pages: &Pages) -> Result<String, AllocError> {
 /// A byte of a page's place on the data device.
 fn byte_at(store: &mut MemDisk, page: u32, at: usize) -> Result<u8, DevError> {
     let mut bytes = [0; PAGE_SIZE as usize];
-    let start = (u64::from(EARLY_SLOTS) + u64::from(page)) * u64::from(PAGE_SIZE);
+    let start = (u64::from(SLOTS) + u64::from(page)) * u64::from(PAGE_SIZE);
     if start + u64::from(PAGE_SIZE) <= store.len() {
         store.read(start, &mut bytes)?;
     }

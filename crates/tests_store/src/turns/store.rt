@@ -30,14 +30,14 @@ const SHAPE: Shape = Shape {
     pages: 8,
     space: 1,
     log_blocks: 1024,
-    slots: 8,
+    slots: 128,
 };
 
 /// Bytes of the log device: four header blocks, and the log blocks.
 const LOG: u64 = 526_336;
 
 /// Bytes of the data device: the slots, and the places of the pages.
-const DATA: u64 = 65_536;
+const DATA: u64 = 557_056;
 
 /// Two devices on which a store was formatted, and which tear the sectors that a crash loses: so many of the first bytes stay.
 fn formatted(alloc: Global, cut: usize) -> Result<(MemDisk, MemDisk), Fail>
