@@ -35,7 +35,7 @@ fn numbers_taken(format: Format) -> u64
     }
 }
 
-/// What a run takes, once both devices are ready for it: it has the shape of a run. The log part is made last.
+/// What a run takes, once both devices are ready for it. Both parts have the sizes of a run, and the log part is made last.
 fn start_run<L: Sectors, D: Sectors>(
     alloc: Global,
     log: L,

@@ -41,7 +41,7 @@ pub(crate) fn put_checkpoint<L: Sectors>(
     put_block(log, place_of(number), &block)
 }
 
-/// Puts the header of a store of this shape, by the format of its runs, into a header block.
+/// Puts the header of a store of this shape into a header block, by format 3 if it has the slots of that, else by format 2.
 pub(crate) fn put_head<L: Sectors>(log: &mut L, k: u32, shape: &Shape) -> Result<(), DevError>
     requires { end_of_block k ≤ (L.seen log.old).size }
     ensures step { PutStep k (head_text (run_format shape.now) shape.now) (L.seen log.old) result (L.seen log.new) }
