@@ -1,15 +1,13 @@
 //! Opening as one would write it in Rust, of a store that needs no repair: it is recovered, what stands on the log past its end
-//! is cleared away, and the next checkpoint is put where the run starts. There is room for a run's writes then.
+//! is cleared away, and the next checkpoint is put where the run starts.
 
 use crate::log::{BLOCK_HEADER, BLOCK_SIZE, Device, RING_START, TAIL_BLOCK, TAIL_BLOCKS};
-use crate::machine::parts::put_checkpoint;
+use crate::machine::parts::{DataPart, LogPart, put_checkpoint};
 use crate::recovery::{PIECE, Pages, Recovered, place_of, recover};
 use crate::store::Shape;
 
 /// Bytes of the log device up to the end of its second header block.
 const HEADS: usize = 3 * BLOCK_SIZE;
-/// Bytes of the room for the log blocks of one write.
-const ROOM: usize = 65_536;
 const ZEROS: [u8; PIECE] = [0; PIECE];
 
 /// A store on which a run can start.
@@ -17,10 +15,8 @@ pub struct Opened {
     pub shape: Shape,
     pub start: u64,
     pub pages: Pages,
-    pub log: Device,
-    pub data: Device,
-    /// The room for log blocks, and for the pages of a batch.
-    pub rooms: [Vec<u8>; 2],
+    pub log: LogPart<Device>,
+    pub data: DataPart<Device>,
 }
 
 /// The opened store; none where it can't be read, or needs a repair.
@@ -40,24 +36,24 @@ pub fn open(mut log: Device, mut data: Device) -> Option<Opened> {
         pages,
         ..
     } = recovered;
-    let batch = vec![0; shape.slots * shape.page_size];
+    let data = DataPart::new(data, shape);
     let start = start_after(end);
     clear(&mut log, &shape, ckpt, start);
-    let (block, place) = (start - BLOCK_HEADER as u64, place_of(start, &shape));
-    put_checkpoint(&mut log, number + 1, block, place as u64).ok()?;
+    let block = start - BLOCK_HEADER as u64;
+    put_checkpoint(&mut log, number + 1, block, place_of(block, &shape) as u64).ok()?;
+    let log = LogPart::at(log, shape.ring_blocks as u64, start, number + 1);
     Some(Opened {
         shape,
         start,
         pages,
         log,
         data,
-        rooms: [vec![0; ROOM], batch],
     })
 }
 
 /// Whether each page stands in its place as it was read, and the log ends with a full block.
 fn is_whole(recovered: &Recovered) -> bool {
-    let pages = recovered.pages.lsns.iter().zip(&recovered.places.found);
+    let pages = recovered.pages.lsns.iter().zip(&recovered.found);
     let are_whole = |(lsn, (found, in_place)): (&u64, &(u64, bool))| lsn == found && *in_place;
     let last = recovered.views.last();
     pages.map(are_whole).all(|is_whole| is_whole)

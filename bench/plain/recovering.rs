@@ -45,8 +45,8 @@ pub fn time_opening(log: &[u8], data: &[u8]) {
             "{} {:x} {:x} {:x}",
             opened.start,
             sum_of(&opened.pages),
-            opened.log.sum_from(0),
-            opened.data.sum_from(0)
+            opened.log.sum(),
+            opened.data.sum()
         );
     }
     report("opening", length, best, &outcome);

@@ -45,16 +45,11 @@ pub struct Recovered {
     pub groups: Vec<Whole>,
     pub end: u64,
     pub pages: Pages,
-    pub places: Places,
+    pub found: Found,
 }
 
-/// How the pages stood on the data device.
-pub struct Places {
-    /// The bytes of all slots.
-    pub slots: Vec<u8>,
-    /// Their lsns, before groups are applied, and whether what their places hold passes.
-    pub found: Vec<(u64, bool)>,
-}
+/// The lsns of the pages, before groups are applied, and whether what their places hold passes.
+pub type Found = Vec<(u64, bool)>;
 
 pub fn recover(log: &Device, data: &Device) -> Option<Recovered> {
     let header = log.read(0, RING_START);
@@ -66,7 +61,7 @@ pub fn recover(log: &Device, data: &Device) -> Option<Recovered> {
     let (views, joined) = read_blocks(log, tails, &shape, ckpt);
     let (groups, end) = read_groups(&views, &joined, ckpt, &shape)?;
     drop(joined);
-    let (mut pages, places) = read_pages(data, &shape, end)?;
+    let (mut pages, found) = read_pages(data, &shape, end)?;
     replay(&mut pages, &groups);
     Some(Recovered {
         shape,
@@ -76,7 +71,7 @@ pub fn recover(log: &Device, data: &Device) -> Option<Recovered> {
         groups,
         end,
         pages,
-        places,
+        found,
     })
 }
 
@@ -240,7 +235,7 @@ pub fn fits(group: &[Rec], shape: &Shape) -> bool {
 }
 
 /// The pages as they are kept: what the place has, or else the newest copy in a slot.
-fn read_pages(data: &Device, shape: &Shape, end: u64) -> Option<(Pages, Places)> {
+fn read_pages(data: &Device, shape: &Shape, end: u64) -> Option<(Pages, Found)> {
     let slots = data.read(0, shape.slots * shape.page_size);
     let mut pages = blank(shape);
     let mut found = Vec::with_capacity(shape.pages);
@@ -263,7 +258,7 @@ fn read_pages(data: &Device, shape: &Shape, end: u64) -> Option<(Pages, Places)>
         pages.users[number].copy_from_slice(&page[user(shape)]);
     }
     let is_below_end = pages.lsns.iter().all(|lsn| *lsn <= end);
-    is_below_end.then_some((pages, Places { slots, found }))
+    is_below_end.then_some((pages, found))
 }
 
 fn user(shape: &Shape) -> Range<usize> {

@@ -42,21 +42,25 @@ impl<D: Sectors> LogPart<D> {
     /// The log part of a run that starts there, on a device with the two checkpoints that formatting and opening leave, and with
     /// so many blocks in its ring.
     pub fn new(device: D, blocks: u64, start: u64) -> Result<LogPart<D>, Failure> {
-        let mut part = LogPart {
+        let mut part = LogPart::at(device, blocks, start, 0);
+        part.put_checkpoint(floor(start))?;
+        part.checkpoint(floor(start))?;
+        Ok(part)
+    }
+
+    /// The same on a device whose newest checkpoint has this number.
+    pub fn at(device: D, blocks: u64, start: u64, number: u64) -> LogPart<D> {
+        LogPart {
             device,
             blocks,
             written: start,
             stable: start,
             tail: TAIL_BLOCK + 1,
             newest: TAIL_BLOCK + 1,
-            number: 0,
+            number,
             buffer: vec![0; LOG_BUFFER as usize],
             failed: None,
-        };
-        part.put_checkpoint(floor(start))?;
-        part.number = 1;
-        part.put_checkpoint(floor(start))?;
-        Ok(part)
+        }
     }
 
     fn offset_of(&self, lsn: u64) -> usize {
