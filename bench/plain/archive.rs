@@ -1,7 +1,7 @@
 //! An archive of small groups or of large ones, as long as is asked for, and the reading of one.
 
 use crate::checksum::crc32c;
-use crate::generator::{large_groups, small_groups};
+use crate::generator::{SPOTS, large_groups, small_groups};
 use crate::log::{BLOCK_DATA, BLOCK_HEADER, BLOCK_SIZE, START_LSN};
 use crate::store::{PAGE_SIZE, PAGES, SLOTS, SPACE, blocks_of, seal};
 use std::fs::File;
@@ -55,7 +55,7 @@ pub fn archive(kind: &str, length: usize) -> (Vec<u8>, u64) {
     let stream = match kind {
         "large" => large_groups(room),
         // the last small group may be longer than what is left
-        _ => small_groups(room - BLOCK_DATA),
+        _ => small_groups(room - BLOCK_DATA, SPOTS),
     };
     let mark = end_of(stream.len());
     let mut bytes = vec![0; pages_end];

@@ -10,10 +10,25 @@ pub const STRING: u8 = 30;
 pub const INIT: u8 = 59;
 
 const SPACE: u32 = 1;
-const PAGES: u32 = 64;
 const FIRST_OFFSET: u32 = 38;
-const OFFSETS: u32 = 4_000;
 const LONGEST_STRING: u32 = 40;
+
+/// How many pages and how many offsets are drawn from.
+#[derive(Clone, Copy)]
+pub struct Spots {
+    pub pages: u32,
+    pub offsets: u32,
+}
+
+/// Those of a store of 64 pages of 4,096 bytes, and of one of 1,024 pages of 16,384 bytes.
+pub const SPOTS: Spots = Spots {
+    pages: 64,
+    offsets: 4_000,
+};
+pub const LARGE_SPOTS: Spots = Spots {
+    pages: 1_024,
+    offsets: 16_200,
+};
 
 /// A linear congruential generator with the constants of Knuth's MMIX.
 pub struct Draws(pub u64);
@@ -46,34 +61,34 @@ pub fn groups() -> Vec<u8> {
     let mut stream = Vec::new();
     for _ in 0..GROUPS {
         match draws.below(5) {
-            0 => put_number(&mut stream, SINGLE, 1, &mut draws),
+            0 => put_number(&mut stream, SINGLE, 1, SPOTS, &mut draws),
             1 => {
-                put_number(&mut stream, 0, 2, &mut draws);
-                put_number(&mut stream, 0, 4, &mut draws);
+                put_number(&mut stream, 0, 2, SPOTS, &mut draws);
+                put_number(&mut stream, 0, 4, SPOTS, &mut draws);
                 stream.push(END_MARK);
             }
-            2 => put_string(&mut stream, &mut draws),
-            3 => put_number(&mut stream, SINGLE, 8, &mut draws),
-            _ => put_page(&mut stream, SINGLE | INIT, &mut draws),
+            2 => put_string(&mut stream, SPOTS, &mut draws),
+            3 => put_number(&mut stream, SINGLE, 8, SPOTS, &mut draws),
+            _ => put_page(&mut stream, SINGLE | INIT, SPOTS, &mut draws),
         }
     }
     stream
 }
 
 /// Groups of the first four of these kinds, so many bytes of them and a few more.
-pub fn small_groups(length: usize) -> Vec<u8> {
+pub fn small_groups(length: usize, spots: Spots) -> Vec<u8> {
     let mut draws = Draws(3);
     let mut stream = Vec::new();
     while stream.len() < length {
         match draws.below(4) {
-            0 => put_number(&mut stream, SINGLE, 1, &mut draws),
+            0 => put_number(&mut stream, SINGLE, 1, spots, &mut draws),
             1 => {
-                put_number(&mut stream, 0, 2, &mut draws);
-                put_number(&mut stream, 0, 4, &mut draws);
+                put_number(&mut stream, 0, 2, spots, &mut draws);
+                put_number(&mut stream, 0, 4, spots, &mut draws);
                 stream.push(END_MARK);
             }
-            2 => put_string(&mut stream, &mut draws),
-            _ => put_number(&mut stream, SINGLE, 8, &mut draws),
+            2 => put_string(&mut stream, spots, &mut draws),
+            _ => put_number(&mut stream, SINGLE, 8, spots, &mut draws),
         }
     }
     stream
@@ -85,7 +100,7 @@ pub fn large_groups(length: usize) -> Vec<u8> {
     let mut stream = Vec::new();
     while stream.len() + 8_192 <= length {
         for _ in 0..2 {
-            put_page(&mut stream, STRING, &mut draws);
+            put_page(&mut stream, STRING, SPOTS, &mut draws);
             stream.extend((FIRST_OFFSET as u16).to_be_bytes());
             stream.extend(4_000u16.to_be_bytes());
             let byte = draws.draw() as u8;
@@ -96,8 +111,8 @@ pub fn large_groups(length: usize) -> Vec<u8> {
     stream
 }
 
-fn put_number(stream: &mut Vec<u8>, flag: u8, width: u8, draws: &mut Draws) {
-    put_spot(stream, flag | width, draws);
+fn put_number(stream: &mut Vec<u8>, flag: u8, width: u8, spots: Spots, draws: &mut Draws) {
+    put_spot(stream, flag | width, spots, draws);
     match width {
         1 => put_spelled(stream, draws.below(1 << 8)),
         2 => put_spelled(stream, draws.below(1 << 16)),
@@ -109,23 +124,23 @@ fn put_number(stream: &mut Vec<u8>, flag: u8, width: u8, draws: &mut Draws) {
     }
 }
 
-fn put_string(stream: &mut Vec<u8>, draws: &mut Draws) {
-    put_spot(stream, SINGLE | STRING, draws);
+fn put_string(stream: &mut Vec<u8>, spots: Spots, draws: &mut Draws) {
+    put_spot(stream, SINGLE | STRING, spots, draws);
     let length = 1 + draws.below(LONGEST_STRING);
     stream.extend((length as u16).to_be_bytes());
     stream.extend((0..length).map(|_| draws.draw() as u8));
 }
 
-fn put_spot(stream: &mut Vec<u8>, kind: u8, draws: &mut Draws) {
-    put_page(stream, kind, draws);
-    let offset = FIRST_OFFSET + draws.below(OFFSETS);
+fn put_spot(stream: &mut Vec<u8>, kind: u8, spots: Spots, draws: &mut Draws) {
+    put_page(stream, kind, spots, draws);
+    let offset = FIRST_OFFSET + draws.below(spots.offsets);
     stream.extend((offset as u16).to_be_bytes());
 }
 
-fn put_page(stream: &mut Vec<u8>, kind: u8, draws: &mut Draws) {
+fn put_page(stream: &mut Vec<u8>, kind: u8, spots: Spots, draws: &mut Draws) {
     stream.push(kind);
     put_spelled(stream, SPACE);
-    put_spelled(stream, draws.below(PAGES));
+    put_spelled(stream, draws.below(spots.pages));
 }
 
 pub fn put_spelled(stream: &mut Vec<u8>, n: u32) {

@@ -2,12 +2,12 @@
 
 use crate::generator::{END_MARK, INIT, SINGLE, STRING, put_spelled};
 use crate::script::Item;
+use std::ops::Range;
 
 /// The space of a store that is formatted without an option.
 const SPACE: u32 = 1;
-const PAGE_SIZE: usize = 4_096;
 const USER_START: usize = 38;
-const USER_END: usize = 4_088;
+const TRAILER: usize = 8;
 
 /// The bytes of the group that a line logs: one record for each operation.
 pub fn encode(items: &[Item]) -> Vec<u8> {
@@ -70,14 +70,14 @@ pub struct ChangedPage {
     pub cells: Vec<(u16, u8)>,
 }
 
-/// The pages that the line touches, ascending.
-pub fn changes(items: &[Item]) -> Vec<ChangedPage> {
+/// The pages that the line touches, ascending, in a store of pages of so many bytes.
+pub fn changes(items: &[Item], page_size: usize) -> Vec<ChangedPage> {
     let mut pages: Vec<u32> = items.iter().map(page_of).collect();
     pages.sort_unstable();
     pages.dedup();
     pages
         .into_iter()
-        .map(|page| changed_page(items, page))
+        .map(|page| changed_page(items, page, page_size))
         .collect()
 }
 
@@ -87,31 +87,42 @@ fn page_of(item: &Item) -> u32 {
     }
 }
 
-fn changed_page(items: &[Item], page: u32) -> ChangedPage {
-    let mut last = [None; PAGE_SIZE];
-    for item in items.iter().filter(|item| page_of(item) == page) {
+fn changed_page(items: &[Item], page: u32, page_size: usize) -> ChangedPage {
+    let own = || items.iter().filter(|item| page_of(item) == page);
+    let ranges = own().map(|item| range_of(item, page_size));
+    let (from, to) = ranges.fold((page_size, 0), |(from, to), range| {
+        (from.min(range.start), to.max(range.end))
+    });
+    // of the cells between the first that changes and the last
+    let mut last = vec![None; to - from];
+    for item in own() {
+        let range = range_of(item, page_size);
+        let cells = &mut last[range.start - from..range.end - from];
         match item {
-            Item::Num {
-                width,
-                offset,
-                value,
-                ..
-            } => put_bytes(
-                &mut last,
-                *offset,
-                &value.to_be_bytes()[8 - *width as usize..],
-            ),
-            Item::Text { offset, bytes, .. } => put_bytes(&mut last, *offset, bytes),
-            Item::Init { .. } => last[USER_START..USER_END].fill(Some(0)),
+            Item::Num { width, value, .. } => {
+                put_bytes(cells, &value.to_be_bytes()[8 - *width as usize..]);
+            }
+            Item::Text { bytes, .. } => put_bytes(cells, bytes),
+            Item::Init { .. } => cells.fill(Some(0)),
         }
     }
-    let cells = (0..).zip(last);
+    let cells = (from as u16..).zip(last);
     let cells = cells.filter_map(|(at, value)| Some((at, value?))).collect();
     ChangedPage { page, cells }
 }
 
-fn put_bytes(last: &mut [Option<u8>], offset: u32, bytes: &[u8]) {
-    for (cell, byte) in last[offset as usize..].iter_mut().zip(bytes) {
+/// The cells that an operation changes.
+fn range_of(item: &Item, page_size: usize) -> Range<usize> {
+    let (offset, length) = match item {
+        Item::Num { width, offset, .. } => (*offset as usize, *width as usize),
+        Item::Text { offset, bytes, .. } => (*offset as usize, bytes.len()),
+        Item::Init { .. } => return USER_START..page_size - TRAILER,
+    };
+    offset..offset + length
+}
+
+fn put_bytes(cells: &mut [Option<u8>], bytes: &[u8]) {
+    for (cell, byte) in cells.iter_mut().zip(bytes) {
         *cell = Some(*byte);
     }
 }

@@ -42,6 +42,29 @@ impl Device {
         }
     }
 
+    /// A device on which these bytes stand.
+    pub fn of(bytes: &[u8]) -> Self {
+        Device {
+            base: bytes.to_vec(),
+            pending: Vec::new(),
+        }
+    }
+
+    pub fn read(&self, at: usize, length: usize) -> Vec<u8> {
+        let mut bytes = self.base[at..at + length].to_vec();
+        for write in &self.pending {
+            let (from, to) = (
+                write.at.max(at),
+                (write.at + write.bytes.len()).min(at + length),
+            );
+            if from < to {
+                bytes[from - at..to - at]
+                    .copy_from_slice(&write.bytes[from - write.at..to - write.at]);
+            }
+        }
+        bytes
+    }
+
     pub fn write(&mut self, at: usize, bytes: &[u8]) {
         let bytes = bytes.to_vec();
         self.pending.push(Write { at, bytes });

@@ -8,6 +8,7 @@ mod closer;
 mod flusher;
 pub mod lsn;
 pub mod parts;
+pub mod rounds;
 pub mod threads;
 mod user;
 pub mod words;
@@ -17,21 +18,19 @@ use crate::device::Failure;
 use crate::group::{changes, encode};
 use crate::log::{BLOCK_HEADER, BLOCK_SIZE, Device, RING_START};
 use crate::script::ScriptLine;
-use crate::store::head;
+use crate::store::{DEFAULT, LARGE, Shape, data_length, head};
 use checkpointer::Checkpointer;
 use cleaner::Cleaner;
 use closer::Closer;
 use flusher::Flusher;
 use lsn::{floor, lsn_of, sn_of};
-use parts::{DataPart, LogPart, data_length};
+use parts::{DataPart, LogPart};
 pub use user::FREE_MARGIN;
 use user::{Line, User};
 use words::*;
 use writer::Writer;
 
-/// The sizes of a store that is formatted without an option, and where its first run starts.
-const PAGES: u32 = 8;
-const RING_BLOCKS: u64 = 2_046;
+/// Where the first run of a store starts.
 pub const START: u64 = 8_204;
 const USERS: u32 = 16;
 
@@ -71,42 +70,47 @@ impl Actor {
 /// The sizes of a store, and whether its log runs alone.
 #[derive(Clone, Copy)]
 pub struct Sizes {
-    pub pages: u32,
-    pub ring_blocks: u64,
+    pub shape: Shape,
     pub log_only: bool,
 }
 
+/// Those of a store that is formatted without an option, and of one of 1,024 pages of 16,384 bytes.
 pub const DEFAULT_SIZES: Sizes = Sizes {
-    pages: PAGES,
-    ring_blocks: RING_BLOCKS,
+    shape: DEFAULT,
+    log_only: false,
+};
+pub const LARGE_SIZES: Sizes = Sizes {
+    shape: LARGE,
     log_only: false,
 };
 
 /// The users that have lines, and after them the other actors.
 fn seat_actors(script: &[ScriptLine], sizes: Sizes) -> Vec<Actor> {
     let mut actors = Vec::new();
+    let shape = sizes.shape;
+    let (blocks, words) = (shape.ring_blocks as u64, PageWords::of(shape.page_size));
     for number in 1..=USERS {
         let own = script.iter().filter(|line| line.user == number);
-        let lines: Vec<Line> = own.map(|line| line_of(line, sizes.log_only)).collect();
+        let lines: Vec<Line> = own.map(|line| line_of(line, sizes)).collect();
         if !lines.is_empty() {
-            actors.push(Actor::User(User::new(number, lines, sizes.ring_blocks)));
+            actors.push(Actor::User(User::new(number, lines, blocks, words)));
         }
     }
-    actors.push(Actor::Writer(Writer::new(START, sizes.ring_blocks)));
+    actors.push(Actor::Writer(Writer::new(START, blocks)));
     actors.push(Actor::Flusher(Flusher::new(START)));
     if !sizes.log_only {
         actors.push(Actor::Closer(Closer::new()));
-        actors.push(Actor::Cleaner(Cleaner::new(sizes.pages)));
+        actors.push(Actor::Cleaner(Cleaner::new(shape)));
         actors.push(Actor::Checkpointer(Checkpointer::new(START)));
     }
     actors
 }
 
-fn line_of(line: &ScriptLine, log_only: bool) -> Line {
-    let pages = if log_only {
+fn line_of(line: &ScriptLine, sizes: Sizes) -> Line {
+    let pages = if sizes.log_only {
         Vec::new()
     } else {
-        changes(&line.items)
+        changes(&line.items, sizes.shape.page_size)
     };
     Line {
         mode: line.mode,
@@ -131,8 +135,8 @@ fn called(answer: Result<(), Failure>, told: u64, code: u32) -> Answer {
 }
 
 /// The words as a run begins on a new store.
-fn start_words(pages: u32) -> Vec<u64> {
-    let mut words = vec![0; count(pages as usize)];
+fn start_words(shape: Shape) -> Vec<u64> {
+    let mut words = vec![0; PageWords::of(shape.page_size).count(shape.pages)];
     words[SN] = sn_of(START);
     for mark in [WRITE, FLUSHED] {
         words[mark] = START;
@@ -146,21 +150,21 @@ fn start_words(pages: u32) -> Vec<u64> {
 }
 
 /// Bytes of the log device with so many blocks in its ring.
-pub fn log_length(ring_blocks: u64) -> usize {
-    RING_START + ring_blocks as usize * BLOCK_SIZE
+pub fn log_length(ring_blocks: usize) -> usize {
+    RING_START + ring_blocks * BLOCK_SIZE
 }
 
 impl Parts {
-    fn new(sizes: Sizes) -> Result<Parts, Failure> {
-        let mut log = Device::new(log_length(sizes.ring_blocks));
+    fn new(shape: Shape) -> Result<Parts, Failure> {
+        let mut log = Device::new(log_length(shape.ring_blocks));
         // the second header; a sum over the device leaves out the first
         let mut block = [0; BLOCK_SIZE];
-        head(&mut block, sizes.ring_blocks as usize, sizes.pages as usize);
+        head(&mut block, shape);
         log.write(2 * BLOCK_SIZE, &block);
         Ok(Parts {
-            words: start_words(sizes.pages),
-            log: LogPart::new(log, sizes.ring_blocks, START)?,
-            data: DataPart::new(Device::new(data_length(sizes.pages))),
+            words: start_words(shape),
+            log: LogPart::new(log, shape.ring_blocks as u64, START)?,
+            data: DataPart::new(Device::new(data_length(shape)), shape),
             lists: Default::default(),
         })
     }
@@ -275,7 +279,7 @@ impl Machine {
     /// A new store as a run of the script begins on it.
     pub fn new(script: &[ScriptLine], sizes: Sizes) -> Result<Machine, Failure> {
         Ok(Machine {
-            parts: Parts::new(sizes)?,
+            parts: Parts::new(sizes.shape)?,
             actors: seat_actors(script, sizes),
         })
     }

@@ -10,6 +10,7 @@ mod generator;
 mod group;
 mod log;
 mod machine;
+mod opening;
 mod recovering;
 mod recovery;
 mod script;
@@ -28,7 +29,12 @@ const NOISE_FILE: &str = "noise.bin";
 const GROUPS_FILE: &str = "groups.bin";
 const LOG_FILE: &str = "log.bin";
 const DATA_FILE: &str = "data.bin";
+const LARGE_LOG_FILE: &str = "large_log.bin";
+const LARGE_DATA_FILE: &str = "large_data.bin";
+const OPENED_LOG_FILE: &str = "opened_log.bin";
+const OPENED_DATA_FILE: &str = "opened_data.bin";
 const TURNS_FILE: &str = "turns.txt";
+const LARGE_TURNS_FILE: &str = "large_turns.txt";
 const SCRIPT_FILE: &str = "script.txt";
 /// How often each work is done; the fastest time counts.
 const ROUNDS: u32 = 10;
@@ -38,7 +44,12 @@ fn write() -> io::Result<()> {
     fs::write(GROUPS_FILE, generator::groups())?;
     fs::write(LOG_FILE, store::log_bytes())?;
     fs::write(DATA_FILE, store::data_bytes())?;
+    fs::write(LARGE_LOG_FILE, store::large_log_bytes())?;
+    fs::write(LARGE_DATA_FILE, store::large_data_bytes())?;
+    fs::write(OPENED_LOG_FILE, store::opened_log_bytes())?;
+    fs::write(OPENED_DATA_FILE, store::opened_data_bytes())?;
     fs::write(TURNS_FILE, scripts::turns())?;
+    fs::write(LARGE_TURNS_FILE, scripts::large_turns())?;
     fs::write(SCRIPT_FILE, scripts::long())
 }
 
@@ -64,7 +75,11 @@ fn time() -> io::Result<()> {
         &format!("{:08x}", device.sum_from(0)),
     );
     recovering::time(fs::read(LOG_FILE)?, fs::read(DATA_FILE)?);
+    recovering::time_large(&fs::read(LARGE_LOG_FILE)?, &fs::read(LARGE_DATA_FILE)?);
+    recovering::time_opening(&fs::read(OPENED_LOG_FILE)?, &fs::read(OPENED_DATA_FILE)?);
     turning::time_turns(&fs::read(TURNS_FILE)?);
+    turning::time_large_turns(&fs::read(LARGE_TURNS_FILE)?);
+    turning::time_rounds();
     turning::time_parser(&fs::read(SCRIPT_FILE)?);
     Ok(())
 }

@@ -1,24 +1,63 @@
-//! The times of recovery, and of the three things that most of it goes to, over the same bytes.
+//! The times of recovery, of the three things that most of it goes to, over the same bytes, and of opening.
 
 use crate::checksum::crc32c;
-use crate::log::{BLOCK_DATA, BLOCK_HEADER, BLOCK_SIZE, RING_START};
-use crate::recovery::{Device, Pages, Recovered, apply, blank, fits, recover};
-use crate::{decode_all, report};
+use crate::log::{BLOCK_DATA, BLOCK_HEADER, BLOCK_SIZE, Device, RING_START};
+use crate::opening::open;
+use crate::recovery::{Pages, Recovered, apply, blank, fits, recover};
+use crate::{ROUNDS, decode_all, report};
 use std::hint::black_box;
-use std::time::Instant;
+use std::time::{Duration, Instant};
 
-pub fn time(log: Vec<u8>, data: Vec<u8>) {
-    let length = log.len() - RING_START;
-    let (log, data) = (Device(log), Device(data));
+/// Times recovery under this name.
+fn time_recovery(name: &str, log: &[u8], data: &[u8]) -> Option<Recovered> {
+    let (length, log, data) = (log.len() - RING_START, Device::of(log), Device::of(data));
     let start = Instant::now();
     let recovered = black_box(recover(black_box(&log), black_box(&data)));
     let took = start.elapsed();
-    let Some(recovered) = recovered else {
-        println!("recover: refused");
+    match &recovered {
+        Some(recovered) => report(name, length, took, &outcome(recovered)),
+        None => println!("{name}: refused"),
+    }
+    recovered
+}
+
+/// Times the recovery of a store of large pages.
+pub fn time_large(log: &[u8], data: &[u8]) {
+    time_recovery("recover-large", log, data);
+}
+
+/// Times the opening of a store, which begins anew each time.
+pub fn time_opening(log: &[u8], data: &[u8]) {
+    let mut best = Duration::MAX;
+    let mut outcome = String::new();
+    let mut length = 0;
+    for _ in 0..ROUNDS {
+        let (log, data) = (Device::of(log), Device::of(data));
+        let start = Instant::now();
+        let opened = black_box(open(black_box(log), black_box(data)));
+        best = best.min(start.elapsed());
+        let Some(opened) = opened else {
+            println!("opening: refused");
+            return;
+        };
+        length = opened.shape.pages * opened.shape.page_size;
+        outcome = format!(
+            "{} {:x} {:x} {:x}",
+            opened.start,
+            sum_of(&opened.pages),
+            opened.log.sum(),
+            opened.data.sum()
+        );
+    }
+    report("opening", length, best, &outcome);
+}
+
+pub fn time(log: Vec<u8>, data: Vec<u8>) {
+    let length = log.len() - RING_START;
+    let Some(recovered) = time_recovery("recover", &log, &data) else {
         return;
     };
-    report("recover", length, took, &outcome(&recovered));
-    let blocks = &log.0[RING_START..];
+    let blocks = &log[RING_START..];
     let start = Instant::now();
     let sum = black_box(checksums(black_box(blocks)));
     report("-checksum", length, start.elapsed(), &format!("{sum:x}"));

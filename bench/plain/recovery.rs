@@ -5,39 +5,20 @@
 use crate::checksum::crc32c;
 use crate::decoder::{Got, Rec, decode};
 use crate::log::{
-    BLOCK_DATA, BLOCK_HEADER, BLOCK_SIZE, RING_START, START_LSN, TAIL_BLOCK, TAIL_BLOCKS,
+    BLOCK_DATA, BLOCK_HEADER, BLOCK_SIZE, Device, RING_START, START_LSN, TAIL_BLOCK, TAIL_BLOCKS,
 };
-use crate::store::FORMAT;
+use crate::store::{FORMAT, Shape};
 use std::ops::Range;
 
-const PIECE: usize = 65_536;
+/// The log is read, and cleared, in pieces of so many bytes.
+pub const PIECE: usize = 65_536;
 const DATA_END: usize = 508;
 const USER_START: usize = 38;
 const TRAILER: usize = 8;
 
-/// A device in memory.
-pub struct Device(pub Vec<u8>);
-
-impl Device {
-    fn read(&self, at: usize, length: usize) -> Vec<u8> {
-        let mut bytes = vec![0; length];
-        bytes.copy_from_slice(&self.0[at..at + length]);
-        bytes
-    }
-}
-
-/// The sizes of a store.
-pub struct Shape {
-    page_size: usize,
-    pages: usize,
-    space: u32,
-    ring_blocks: usize,
-    slots: usize,
-}
-
 /// What a block says of itself.
 pub struct View {
-    length: usize,
+    pub length: usize,
     first: usize,
 }
 
@@ -57,30 +38,40 @@ pub struct Pages {
 /// What is read off the two devices.
 pub struct Recovered {
     pub shape: Shape,
+    /// The newest checkpoint's number, and its lsn.
+    pub number: u64,
+    pub ckpt: u64,
     pub views: Vec<View>,
     pub groups: Vec<Whole>,
     pub end: u64,
     pub pages: Pages,
+    pub found: Found,
 }
+
+/// The lsns of the pages, before groups are applied, and whether what their places hold passes.
+pub type Found = Vec<(u64, bool)>;
 
 pub fn recover(log: &Device, data: &Device) -> Option<Recovered> {
     let header = log.read(0, RING_START);
     let shape = read_shape(&header)?;
     let first = read_checkpoint(&header[BLOCK_SIZE..2 * BLOCK_SIZE], 0, &shape);
     let second = read_checkpoint(&header[3 * BLOCK_SIZE..TAIL_BLOCK * BLOCK_SIZE], 1, &shape);
-    let (_, ckpt) = first.max(second)?;
+    let (number, ckpt) = first.max(second)?;
     let tails = &header[TAIL_BLOCK * BLOCK_SIZE..];
     let (views, joined) = read_blocks(log, tails, &shape, ckpt);
     let (groups, end) = read_groups(&views, &joined, ckpt, &shape)?;
     drop(joined);
-    let mut pages = read_pages(data, &shape, end)?;
+    let (mut pages, found) = read_pages(data, &shape, end)?;
     replay(&mut pages, &groups);
     Some(Recovered {
         shape,
+        number,
+        ckpt,
         views,
         groups,
         end,
         pages,
+        found,
     })
 }
 
@@ -119,7 +110,7 @@ fn read_checkpoint(block: &[u8], parity: u64, shape: &Shape) -> Option<(u64, u64
     is_sound.then_some((number, lsn))
 }
 
-fn place_of(lsn: u64, shape: &Shape) -> usize {
+pub fn place_of(lsn: u64, shape: &Shape) -> usize {
     RING_START + (lsn - START_LSN) as usize % (BLOCK_SIZE * shape.ring_blocks)
 }
 
@@ -244,26 +235,30 @@ pub fn fits(group: &[Rec], shape: &Shape) -> bool {
 }
 
 /// The pages as they are kept: what the place has, or else the newest copy in a slot.
-fn read_pages(data: &Device, shape: &Shape, end: u64) -> Option<Pages> {
+fn read_pages(data: &Device, shape: &Shape, end: u64) -> Option<(Pages, Found)> {
     let slots = data.read(0, shape.slots * shape.page_size);
     let mut pages = blank(shape);
+    let mut found = Vec::with_capacity(shape.pages);
     for number in 0..shape.pages {
         let place = data.read((shape.slots + number) * shape.page_size, shape.page_size);
-        let kept = if place.iter().all(|byte| *byte == 0) {
+        let in_place = if place.iter().all(|byte| *byte == 0) {
             Some((0, &place[..]))
         } else {
-            sound(&place, number, shape).or_else(|| {
-                let copies = slots.chunks_exact(shape.page_size);
-                copies
-                    .filter_map(|copy| sound(copy, number, shape))
-                    .max_by_key(|copy| copy.0)
-            })
+            sound(&place, number, shape)
         };
+        let kept = in_place.or_else(|| {
+            let copies = slots.chunks_exact(shape.page_size);
+            copies
+                .filter_map(|copy| sound(copy, number, shape))
+                .max_by_key(|copy| copy.0)
+        });
         let (lsn, page) = kept?;
+        found.push((lsn, in_place.is_some()));
         pages.lsns[number] = lsn;
         pages.users[number].copy_from_slice(&page[user(shape)]);
     }
-    pages.lsns.iter().all(|lsn| *lsn <= end).then_some(pages)
+    let is_below_end = pages.lsns.iter().all(|lsn| *lsn <= end);
+    is_below_end.then_some((pages, found))
 }
 
 fn user(shape: &Shape) -> Range<usize> {

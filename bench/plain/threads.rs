@@ -13,6 +13,7 @@ use crate::machine::lsn::lsn_of;
 use crate::machine::threads::Crew;
 use crate::machine::{Entry, Machine, Sizes, log_length};
 use crate::script::{ScriptLine, parse};
+use crate::store::{DEFAULT, Shape};
 use locked::Locked;
 use ring::Ring;
 use std::fmt::Write;
@@ -26,8 +27,8 @@ const PAGES: u32 = 64;
 /// The seed of the runs by turns.
 const SEED: u64 = 7;
 /// Blocks of the ring of a log that is written alone, and never freed, and of one with pages, as a store has it by default.
-const LONG_LOG: u64 = 65_534;
-const LOG: u64 = 2_046;
+const LONG_LOG: usize = 65_534;
+const LOG: usize = 2_046;
 
 /// Lines of the users by turns, each of one string, whose group has so many bytes.
 pub fn script_text(users: u32, bytes: u32, mode: &str, groups: u32) -> String {
@@ -125,21 +126,22 @@ fn play<L: Log>(
 }
 
 fn run_locked<D: Sectors + Send>(users: &[Groups], device: D) -> Result<Outcome, Failure> {
-    let log = Locked::new(device, LONG_LOG, users.len() as u64)?;
+    let log = Locked::new(device, LONG_LOG as u64, users.len() as u64)?;
     play(&log, users, &[&|| log.write_on()])
 }
 
 fn run_ring<D: Sectors + Send>(users: &[Groups], device: D) -> Result<Outcome, Failure> {
-    let log = Ring::new(device, LONG_LOG, users.len() as u64)?;
+    let log = Ring::new(device, LONG_LOG as u64, users.len() as u64)?;
     play(&log, users, &[&|| log.write_on(), &|| log.flush_on()])
 }
 
 fn sizes_of(log_only: bool) -> Sizes {
-    Sizes {
-        pages: PAGES,
+    let shape = Shape {
+        pages: PAGES as usize,
         ring_blocks: if log_only { LONG_LOG } else { LOG },
-        log_only,
-    }
+        ..DEFAULT
+    };
+    Sizes { shape, log_only }
 }
 
 fn outcome_of(start: Instant, entries: &[Entry]) -> Outcome {
@@ -228,7 +230,7 @@ pub fn time_syncs(file: &str, count: u32) -> io::Result<()> {
     let start = Instant::now();
     for number in 0..count as usize {
         // forty groups of 12 bytes stand in a block
-        let at = RING_START + BLOCK_SIZE * (number / 40 % LONG_LOG as usize);
+        let at = RING_START + BLOCK_SIZE * (number / 40 % LONG_LOG);
         let synced = device.write(at, &block).and_then(|()| device.sync());
         synced.map_err(|_| io::Error::other("a device failed"))?;
     }

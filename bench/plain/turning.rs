@@ -1,7 +1,9 @@
-//! The times of a run by turns, and of the parser of scripts.
+//! The times of runs by turns, of rounds of the cleaner, and of the parser of scripts.
 
-use crate::machine::{DEFAULT_SIZES, Entry, Machine, Ran};
+use crate::machine::rounds::Rounds;
+use crate::machine::{DEFAULT_SIZES, Entry, LARGE_SIZES, Machine, Ran, Sizes};
 use crate::script::{Item, ScriptLine, parse};
+use crate::store::LARGE;
 use crate::{fastest, report};
 use std::hint::black_box;
 use std::time::{Duration, Instant};
@@ -9,6 +11,9 @@ use std::time::{Duration, Instant};
 const SEED: u64 = 7;
 /// So many turns are taken, and the users have more lines than these come to.
 const TURNS: u64 = 3_000_000;
+const LARGE_TURNS: u64 = 60_000_000;
+/// Turns of the cleaner alone.
+const CLEANER_TURNS: u64 = 10_000_000;
 /// How often the run is made; the fastest time counts.
 const ROUNDS: u32 = 3;
 
@@ -17,19 +22,43 @@ pub fn time_turns(text: &[u8]) {
         println!("turns: no script");
         return;
     };
-    let (best, outcome) = time_run(&script, TURNS);
+    let (best, outcome) = time_run(&script, DEFAULT_SIZES, TURNS);
     report("turns", TURNS as usize, best, &outcome);
-    let (best, outcome) = time_run(&script, 0);
+    let (best, outcome) = time_run(&script, DEFAULT_SIZES, 0);
     report("-making", text.len(), best, &outcome);
 }
 
+/// The same on a store of large pages, but for the making.
+pub fn time_large_turns(text: &[u8]) {
+    let Ok(script) = parse(text) else {
+        println!("turns-large: no script");
+        return;
+    };
+    let (best, outcome) = time_run(&script, LARGE_SIZES, LARGE_TURNS);
+    report("turns-large", LARGE_TURNS as usize, best, &outcome);
+}
+
+/// The time of rounds of the cleaner of a store of large pages.
+pub fn time_rounds() {
+    let mut best = Duration::MAX;
+    let mut outcome = String::new();
+    for _ in 0..ROUNDS {
+        let mut rounds = Rounds::new(LARGE);
+        let start = Instant::now();
+        black_box(&mut rounds).run(CLEANER_TURNS);
+        best = best.min(start.elapsed());
+        outcome = rounds.outcome();
+    }
+    report("round", CLEANER_TURNS as usize, best, &outcome);
+}
+
 /// The time of so many turns of the script, and what they come to. With none it is that of making the store's actors.
-fn time_run(script: &[ScriptLine], turns: u64) -> (Duration, String) {
+fn time_run(script: &[ScriptLine], sizes: Sizes, turns: u64) -> (Duration, String) {
     let mut best = Duration::MAX;
     let mut outcome = String::new();
     for _ in 0..ROUNDS {
         let start = Instant::now();
-        let run = black_box(run(black_box(script), turns));
+        let run = black_box(run(black_box(script), sizes, turns));
         best = best.min(start.elapsed());
         outcome = outcome_of(&run);
     }
@@ -42,8 +71,8 @@ struct Run {
     entries: Vec<Entry>,
 }
 
-fn run(script: &[ScriptLine], turns: u64) -> Run {
-    let machine = Machine::new(script, DEFAULT_SIZES);
+fn run(script: &[ScriptLine], sizes: Sizes, turns: u64) -> Run {
+    let machine = Machine::new(script, sizes);
     let mut machine = machine.unwrap_or_else(|_| unreachable!("memory fails no call"));
     let ran = machine.run(SEED, turns);
     let entries = machine.history();

@@ -2,11 +2,17 @@
 //! flush lists.
 
 use super::words::*;
+use crate::store::Shape;
 use std::collections::VecDeque;
+use std::ops::Range;
 
-pub const BATCH: usize = 8;
 pub const USER_START: usize = 38;
-pub const USER_END: usize = 4_088;
+const TRAILER: usize = 8;
+
+/// The user bytes of a page of so many bytes.
+pub fn user_bytes(page_size: usize) -> Range<usize> {
+    USER_START..page_size - TRAILER
+}
 
 #[derive(Clone, Copy)]
 enum Step {
@@ -27,6 +33,9 @@ enum Step {
 
 pub struct Cleaner {
     pages: u32,
+    pub page_size: usize,
+    words: PageWords,
+    slots: usize,
     flushed: u64,
     page: u32,
     left: u32,
@@ -42,16 +51,20 @@ pub struct Cleaner {
 }
 
 impl Cleaner {
-    pub fn new(pages: u32) -> Cleaner {
+    /// The cleaner of a store of this shape. A batch has at most as many pages as there are slots.
+    pub fn new(shape: Shape) -> Cleaner {
         Cleaner {
-            pages,
+            pages: shape.pages as u32,
+            page_size: shape.page_size,
+            words: PageWords::of(shape.page_size),
+            slots: shape.slots,
             flushed: 0,
             page: 0,
             left: 0,
             newest: 0,
-            kept: Vec::with_capacity(PAGE_SIZE),
-            batch: VecDeque::with_capacity(BATCH),
-            users: Vec::with_capacity(BATCH * (USER_END - USER_START)),
+            kept: Vec::with_capacity(shape.page_size),
+            batch: VecDeque::with_capacity(shape.slots),
+            users: Vec::with_capacity(shape.slots * user_bytes(shape.page_size).len()),
             code: 0,
             checks: false,
             step: Step::LoadFlushed,
@@ -68,16 +81,16 @@ impl Cleaner {
         }
         match self.step {
             Step::LoadFlushed => Op::Load(FLUSHED),
-            Step::LoadOldest => Op::Load(oldest(self.page)),
-            Step::TakeLatch => Op::Swap(latch(self.page), 0, 1),
-            Step::LoadNewest => Op::Load(newest(self.page)),
-            Step::ReleaseSkipped => Op::Store(latch(self.page), 0),
-            Step::LoadFrame => Op::Load(frame(self.page, self.kept.len() / 8)),
+            Step::LoadOldest => Op::Load(self.words.oldest(self.page)),
+            Step::TakeLatch => Op::Swap(self.words.latch(self.page), 0, 1),
+            Step::LoadNewest => Op::Load(self.words.newest(self.page)),
+            Step::ReleaseSkipped => Op::Store(self.words.latch(self.page), 0),
+            Step::LoadFrame => Op::Load(self.words.frame(self.page, self.kept.len() / 8)),
             Step::WriteBatch => Op::WriteBatch,
             Step::RemoveFromList => Op::TakeRemove(self.first()),
-            Step::ClearOldest => Op::Store(oldest(self.first()), 0),
+            Step::ClearOldest => Op::Store(self.words.oldest(self.first()), 0),
             Step::GiveList => Op::Store(list(self.first()), 0),
-            Step::ReleaseLatch => Op::Store(latch(self.first()), 0),
+            Step::ReleaseLatch => Op::Store(self.words.latch(self.first()), 0),
             Step::StoreFailed => Op::Store(FAILED, u64::from(self.code)),
             Step::Failed => Op::Rest,
         }
@@ -115,7 +128,7 @@ impl Cleaner {
     }
 
     fn next_in_round(&mut self) -> Turn {
-        let is_over = self.left == 1 || self.batch.len() == BATCH;
+        let is_over = self.left == 1 || self.batch.len() == self.slots;
         self.page = (self.page + 1) % self.pages;
         self.left -= 1;
         if !is_over {
@@ -139,12 +152,12 @@ impl Cleaner {
 
     fn loaded_word(&mut self, word: u64) -> Turn {
         self.kept.extend_from_slice(&word.to_le_bytes());
-        if self.kept.len() < PAGE_SIZE {
+        if self.kept.len() < self.page_size {
             return Turn::Moved;
         }
         self.batch.push_back((self.page, self.newest));
-        self.users
-            .extend_from_slice(&self.kept[USER_START..USER_END]);
+        let user = &self.kept[user_bytes(self.page_size)];
+        self.users.extend_from_slice(user);
         self.next_in_round()
     }
 

@@ -1,16 +1,28 @@
 //! The devices as a running store writes them: the log part and the data part.
 
-use super::cleaner::{USER_END, USER_START};
+use super::cleaner::user_bytes;
 use super::lsn::floor;
-use super::words::{LOG_BUFFER, PAGE_SIZE};
+use super::words::LOG_BUFFER;
 use crate::device::{Failure, Sectors};
 use crate::log::{
     BLOCK_DATA, BLOCK_SIZE, Device, RING_START, START_LSN, TAIL_BLOCK, TAIL_BLOCKS, fill,
 };
-use crate::store::{SLOTS, checkpoint, seal_page};
+use crate::store::{Shape, checkpoint, seal_page};
 use std::collections::VecDeque;
 
-const USERS: usize = USER_END - USER_START;
+/// Puts the checkpoint of a number at an lsn, whose block stands there.
+pub fn put_checkpoint<D: Sectors>(
+    device: &mut D,
+    number: u64,
+    lsn: u64,
+    at: u64,
+) -> Result<(), Failure> {
+    let mut block = [0; BLOCK_SIZE];
+    checkpoint(&mut block, number, lsn, at);
+    let place = if number.is_multiple_of(2) { 1 } else { 3 };
+    device.write(place * BLOCK_SIZE, &block)?;
+    device.sync()
+}
 
 pub struct LogPart<D> {
     device: D,
@@ -30,21 +42,25 @@ impl<D: Sectors> LogPart<D> {
     /// The log part of a run that starts there, on a device with the two checkpoints that formatting and opening leave, and with
     /// so many blocks in its ring.
     pub fn new(device: D, blocks: u64, start: u64) -> Result<LogPart<D>, Failure> {
-        let mut part = LogPart {
+        let mut part = LogPart::at(device, blocks, start, 0);
+        part.put_checkpoint(floor(start))?;
+        part.checkpoint(floor(start))?;
+        Ok(part)
+    }
+
+    /// The same on a device whose newest checkpoint has this number.
+    pub fn at(device: D, blocks: u64, start: u64, number: u64) -> LogPart<D> {
+        LogPart {
             device,
             blocks,
             written: start,
             stable: start,
             tail: TAIL_BLOCK + 1,
             newest: TAIL_BLOCK + 1,
-            number: 0,
+            number,
             buffer: vec![0; LOG_BUFFER as usize],
             failed: None,
-        };
-        part.put_checkpoint(floor(start))?;
-        part.number = 1;
-        part.put_checkpoint(floor(start))?;
-        Ok(part)
+        }
     }
 
     fn offset_of(&self, lsn: u64) -> usize {
@@ -91,11 +107,8 @@ impl<D: Sectors> LogPart<D> {
     }
 
     fn put_checkpoint(&mut self, lsn: u64) -> Result<(), Failure> {
-        let mut block = [0; BLOCK_SIZE];
-        checkpoint(&mut block, self.number, lsn, self.offset_of(lsn) as u64);
-        let place = if self.number.is_multiple_of(2) { 1 } else { 3 };
-        self.device.write(place * BLOCK_SIZE, &block)?;
-        self.device.sync()?;
+        let at = self.offset_of(lsn) as u64;
+        put_checkpoint(&mut self.device, self.number, lsn, at)?;
         self.tail = self.newest;
         Ok(())
     }
@@ -110,19 +123,16 @@ impl LogPart<Device> {
 
 pub struct DataPart<D> {
     device: D,
+    shape: Shape,
     buffer: Vec<u8>,
 }
 
-/// Bytes of the data device of a store of so many pages.
-pub fn data_length(pages: u32) -> usize {
-    (SLOTS + pages as usize) * PAGE_SIZE
-}
-
 impl<D: Sectors> DataPart<D> {
-    pub fn new(device: D) -> DataPart<D> {
+    pub fn new(device: D, shape: Shape) -> DataPart<D> {
         DataPart {
             device,
-            buffer: vec![0; SLOTS * PAGE_SIZE],
+            shape,
+            buffer: vec![0; shape.slots * shape.page_size],
         }
     }
 
@@ -131,17 +141,21 @@ impl<D: Sectors> DataPart<D> {
         batch: &VecDeque<(u32, u64)>,
         users: &[u8],
     ) -> Result<(), Failure> {
-        let texts = self.buffer.chunks_exact_mut(PAGE_SIZE);
-        for ((text, (number, lsn)), user) in texts.zip(batch).zip(users.chunks_exact(USERS)) {
-            text[USER_START..USER_END].copy_from_slice(user);
+        let Shape {
+            page_size, slots, ..
+        } = self.shape;
+        let own = user_bytes(page_size);
+        let texts = self.buffer.chunks_exact_mut(page_size);
+        for ((text, (number, lsn)), user) in texts.zip(batch).zip(users.chunks_exact(own.len())) {
+            text[own.clone()].copy_from_slice(user);
             seal_page(text, *number, *lsn);
         }
         self.device
-            .write(0, &self.buffer[..batch.len() * PAGE_SIZE])?;
+            .write(0, &self.buffer[..batch.len() * page_size])?;
         self.device.sync()?;
-        for (text, (number, _)) in self.buffer.chunks_exact(PAGE_SIZE).zip(batch) {
+        for (text, (number, _)) in self.buffer.chunks_exact(page_size).zip(batch) {
             self.device
-                .write((SLOTS + *number as usize) * PAGE_SIZE, text)?;
+                .write((slots + *number as usize) * page_size, text)?;
         }
         self.device.sync()
     }

@@ -1,12 +1,13 @@
 //! The running store in threads, one for each actor, over words that they share.
 
-use super::parts::{DataPart, LogPart, data_length};
+use super::parts::{DataPart, LogPart};
 use super::words::*;
 use super::{
     Actor, Entry, START, Sizes, called, history_of, log_length, marks_in, seat_actors, start_words,
 };
 use crate::device::{Failure, Sectors};
 use crate::script::ScriptLine;
+use crate::store::data_length;
 use crate::threads::backoff::Backoff;
 use std::cell::UnsafeCell;
 use std::sync::atomic::AtomicU64;
@@ -115,7 +116,7 @@ fn ops_in_vain(actor: &Actor) -> u64 {
         // FAILED, a tail loaded twice, taken, and no link
         Actor::User(_) | Actor::Writer(_) | Actor::Flusher(_) | Actor::Closer(_) => 5,
         // fewer than it takes to load a page
-        Actor::Cleaner(_) => PAGE_SIZE as u64 / 8 - 1,
+        Actor::Cleaner(cleaner) => cleaner.page_size as u64 / 8 - 1,
         // FAILED, CTAIL, and each list taken and given
         Actor::Checkpointer(_) => 2 + 2 * LISTS as u64,
     }
@@ -165,13 +166,14 @@ impl<D: Sectors + Send> Crew<D> {
         device: impl Fn(&str, usize) -> D,
     ) -> Result<Crew<D>, Failure> {
         let stride = if spread { LINE } else { 1 };
-        let log = device("log", log_length(sizes.ring_blocks));
-        let data = device("data", data_length(sizes.pages));
+        let shape = sizes.shape;
+        let log = device("log", log_length(shape.ring_blocks));
+        let data = device("data", data_length(shape));
         let shared = Shared {
-            words: spread_out(start_words(sizes.pages), stride),
+            words: spread_out(start_words(shape), stride),
             stride,
-            log: UnsafeCell::new(LogPart::new(log, sizes.ring_blocks, START)?),
-            data: UnsafeCell::new(DataPart::new(data)),
+            log: UnsafeCell::new(LogPart::new(log, shape.ring_blocks as u64, START)?),
+            data: UnsafeCell::new(DataPart::new(data, shape)),
             lists: Default::default(),
         };
         let actors = seat_actors(script, sizes);

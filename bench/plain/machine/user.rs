@@ -48,6 +48,7 @@ enum Step {
 pub struct User {
     pub number: u32,
     blocks: u64,
+    words: PageWords,
     pub lines: Vec<Line>,
     pub starts: Vec<u64>,
     pub answered: usize,
@@ -65,10 +66,11 @@ pub struct User {
 }
 
 impl User {
-    pub fn new(number: u32, lines: Vec<Line>, blocks: u64) -> User {
+    pub fn new(number: u32, lines: Vec<Line>, blocks: u64, words: PageWords) -> User {
         User {
             number,
             blocks,
+            words,
             starts: Vec::with_capacity(lines.len()),
             lines,
             answered: 0,
@@ -131,11 +133,11 @@ impl User {
         if self.checks {
             return Op::Load(FAILED);
         }
-        let start = lsn_of(self.start);
+        let (start, words) = (lsn_of(self.start), self.words);
         match self.step {
             Step::LoadCheckpoint => Op::Load(CKPT),
             Step::LoadSn => Op::Load(SN),
-            Step::TakeLatch => Op::Swap(latch(self.page_number()), 0, 1),
+            Step::TakeLatch => Op::Swap(words.latch(self.page_number()), 0, 1),
             Step::Reserve => Op::Add(SN, self.line().bytes.len() as u64),
             Step::LoadWrite => Op::Load(WRITE),
             Step::StoreCell => {
@@ -152,24 +154,24 @@ impl User {
             Step::StoreLink => Op::Store(written_link(start), self.end() - start),
             Step::LoadCtail | Step::ReloadCtail => Op::Load(CTAIL),
             Step::AdvanceClosed => self.closed.next(),
-            Step::LoadFrame => Op::Load(frame(self.page_number(), self.frame_word())),
+            Step::LoadFrame => Op::Load(words.frame(self.page_number(), self.frame_word())),
             Step::StoreFrame => {
                 let mut lanes = self.word.to_le_bytes();
                 for &(at, value) in self.frame_cells() {
                     lanes[usize::from(at) % 8] = value;
                 }
                 Op::Store(
-                    frame(self.page_number(), self.frame_word()),
+                    words.frame(self.page_number(), self.frame_word()),
                     u64::from_le_bytes(lanes),
                 )
             }
-            Step::StoreNewest => Op::Store(newest(self.page_number()), self.end()),
-            Step::LoadOldest => Op::Load(oldest(self.page_number())),
+            Step::StoreNewest => Op::Store(words.newest(self.page_number()), self.end()),
+            Step::LoadOldest => Op::Load(words.oldest(self.page_number())),
             Step::AddToList => Op::TakeAdd(self.page_number(), start),
-            Step::StoreOldest => Op::Store(oldest(self.page_number()), start),
+            Step::StoreOldest => Op::Store(words.oldest(self.page_number()), start),
             Step::GiveList => Op::Store(list(self.page_number()), 0),
             Step::StoreClosedLink => Op::Store(closed_link(start), self.end() - start),
-            Step::ReleaseLatch => Op::Store(latch(self.page_number()), 0),
+            Step::ReleaseLatch => Op::Store(words.latch(self.page_number()), 0),
             Step::AwaitMark if self.line().mode == 1 => Op::Load(FLUSHED),
             Step::AwaitMark => Op::Load(WRITE),
             Step::Done | Step::Failed => Op::Rest,

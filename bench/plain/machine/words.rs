@@ -5,7 +5,6 @@ pub const WRITTEN_LINKS: u64 = 32_768;
 pub const CLOSED_LINKS: u64 = 16_384;
 pub const LOG_BUFFER: u64 = 65_536;
 pub const BUFFER_BLOCKS: u64 = 128;
-pub const PAGE_SIZE: usize = 4_096;
 
 // where each kind of word begins
 pub const SN: usize = 0;
@@ -22,12 +21,6 @@ const CLINK: usize = WLINK + WRITTEN_LINKS as usize;
 const CELL: usize = CLINK + CLOSED_LINKS as usize;
 const FIRST: usize = CELL + LOG_BUFFER as usize / 8;
 const PAGE: usize = FIRST + BUFFER_BLOCKS as usize;
-const STRIDE: usize = 3 + PAGE_SIZE / 8;
-
-/// How many words a store of so many pages has.
-pub fn count(pages: usize) -> usize {
-    PAGE + pages * STRIDE
-}
 
 pub fn list(page: u32) -> usize {
     list_word(page as usize % LISTS)
@@ -68,20 +61,36 @@ pub fn first(lsn: u64) -> usize {
     FIRST + (lsn / 512 % BUFFER_BLOCKS) as usize
 }
 
-pub fn latch(page: u32) -> usize {
-    PAGE + page as usize * STRIDE
-}
+/// Where the words of pages stand: how many each of them has.
+#[derive(Clone, Copy)]
+pub struct PageWords(usize);
 
-pub fn newest(page: u32) -> usize {
-    latch(page) + 1
-}
+impl PageWords {
+    /// Those of pages of so many bytes.
+    pub fn of(page_size: usize) -> PageWords {
+        PageWords(3 + page_size / 8)
+    }
 
-pub fn oldest(page: u32) -> usize {
-    latch(page) + 2
-}
+    /// How many words a store of so many pages has.
+    pub fn count(self, pages: usize) -> usize {
+        PAGE + pages * self.0
+    }
 
-pub fn frame(page: u32, at: usize) -> usize {
-    latch(page) + 3 + at
+    pub fn latch(self, page: u32) -> usize {
+        PAGE + page as usize * self.0
+    }
+
+    pub fn newest(self, page: u32) -> usize {
+        self.latch(page) + 1
+    }
+
+    pub fn oldest(self, page: u32) -> usize {
+        self.latch(page) + 2
+    }
+
+    pub fn frame(self, page: u32, at: usize) -> usize {
+        self.latch(page) + 3 + at
+    }
 }
 
 /// What an actor asks for.
