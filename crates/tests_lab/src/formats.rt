@@ -1,6 +1,6 @@
 // Stores of earlier formats, which a run takes to format 3, and log devices of which a header block is lost.
 use crate::calls::call_on;
-use crate::devices::MemDevices;
+use crate::devices::{MemDevices, change};
 use crate::tables::{expect, left_by, left_of, play, play_with};
 use redo_disk::{DevError, Sectors};
 use redo_memdisk::MemDisk;
@@ -114,21 +114,20 @@ dump            |                |  0 | store 4096 8 1 2048 8 / checkpoint 1 819
     Ok(())
 }
 
-/// Whether opening a store of an earlier format, whose newest page is page 3, comes to its end in a crash with no line, which stops it
-/// after so many calls of a device. Page 3 is read then and again, which rows say.
+/// A store whose newest page is page 3.
+const RUN: &str =
+    "tearing | run | 1 f b1 3 100 7 | 0 | open 8204 / g 8204 8210 1 0 flushed / marks 8210 8210 8210 8192";
+
+/// Whether opening comes to its end on such a store, as one of format 1, in a crash with no line, which stops it after so many calls
+/// of the log device. Page 3 is read then and again, which rows say.
 fn crash_opening(
     rt: &(impl Abort + AllocGlobal + Threads + Wait + Sync),
-    format: &str,
-    device: &str,
     stop: u64,
     pick: u64,
 ) -> Result<bool, Fail> {
-    let table = "
-tearing  | run     | 1 f b1 3 100 7 | 0 | open 8204 / g 8204 8210 1 0 flushed / marks 8210 8210 8210 8192
-@ format | recover |                | 0 | read 1 8210 / p 3 8210 (00*62)07
-";
-    let devices = left_by(rt, &table.replace(rt.alloc(), "@", format)?)?;
-    let words = format!(in rt.alloc(); "crash --stop-{device} {stop} --pick {pick}")?;
+    let mut devices = left_by(rt, RUN)?;
+    change(&mut devices, "first format")?;
+    let words = format!(in rt.alloc(); "crash --stop-log {stop} --pick {pick}")?;
     let (report, devices) = call_on(rt, &words, "", devices)?;
     expect(rt, &words, &report, "0 | .. / p 3 8210 (00*62)07")?;
     left_of(rt, devices, "recover | | 0 | .. / p 3 8210 (00*62)07")?;
@@ -138,50 +137,28 @@ tearing  | run     | 1 f b1 3 100 7 | 0 | open 8204 / g 8204 8210 1 0 flushed / 
 /// The first number of calls, below 200, at which opening comes to its end with this pick.
 fn stops_of_opening(
     rt: &(impl Abort + AllocGlobal + Threads + Wait + Sync),
-    format: &str,
-    device: &str,
     pick: u64,
 ) -> Result<u64, Fail> {
     for stop in 0..200u64 {
-        if crash_opening(rt, format, device, stop, pick)? {
+        if crash_opening(rt, stop, pick)? {
             return Ok(stop);
         }
     }
     Ok(200)
 }
 
-/// The calls of a device that opening makes for such a store.
-///
-/// Of the log device it reads the header, a stretch of blocks, in format 2 the tail blocks, and the header blocks, and a sync comes.
-/// In format 1 the header is put into block 2, 2,047 blocks are cleared by writes of 128, and the checkpoint is put; then all 2,048
-/// blocks are cleared, and the second checkpoint and two headers are put. In format 2 a tail block is cleared, 2,045 blocks and the
-/// place of the block in the other tail block, and the checkpoint is put. Two headers of format 3 come last.
-///
-/// Of the data device it reads the slots and eight places, and a sync comes; page 3 is written by four calls; and 112 slots are
-/// filled with zeros, 16 by a write, and eight pages written to their new places and synced.
-const CALLS: [(&str, &str, u64); 4] = [
-    (
-        "first",
-        "log",
-        3 + 1 + 2 + (16 + 1) + 2 + (16 + 1) + 3 * 2 + 2 * 2,
-    ),
-    ("second", "log", 4 + 1 + (1 + 1) + (16 + 1 + 1) + 2 + 2 * 2),
-    ("first", "data", (1 + 8) + 1 + 4 + (7 + 8 + 1)),
-    ("second", "data", (1 + 8) + 1 + 4 + (7 + 8 + 1)),
-];
+/// How many calls of the log device opening makes of it: the header, a stretch of blocks and the header blocks are read, and a sync
+/// comes; the header is put into block 2; 2,047 blocks are cleared by writes of 128, and synced; the checkpoint is put; all 2,048
+/// blocks are cleared, and synced; and the second checkpoint is put, and two headers each of formats 2 and 3.
+const CALLS: u64 = 3 + 1 + 2 + (16 + 1) + 2 + (16 + 1) + (1 + 2 + 2) * 2;
 
-/// Opening is stopped at each call of a device, and a crash tears what was written since the last sync, or keeps every other sector
-/// of it, or all of it.
+/// Opening is stopped at each call of the log device, and a crash tears what was written since the last sync, or keeps every other
+/// sector of it, or all of it.
 #[test]
-fn keeps_pages_where_opening_an_earlier_format_stops(rt: HostRuntime) -> Result<(), Fail> {
-    for (format, device, calls) in CALLS {
-        for pick in [0, 6_148_914_691_236_517_205, 18_446_744_073_709_551_615] {
-            let stop = stops_of_opening(&rt, format, device, pick)?;
-            assert!(rt;
-                stop == calls,
-                "{stop} calls of {device} at {pick}, {format} format"
-            );
-        }
+fn keeps_pages_where_opening_the_first_format_stops(rt: HostRuntime) -> Result<(), Fail> {
+    for pick in [0, 6_148_914_691_236_517_205, 18_446_744_073_709_551_615] {
+        let stop = stops_of_opening(&rt, pick)?;
+        assert!(rt; stop == CALLS, "{stop} calls at {pick}");
     }
     Ok(())
 }
