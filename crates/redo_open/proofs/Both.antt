@@ -1,36 +1,37 @@
 -- Both devices at the exits of opening.
-use Rattle.std.proofs.Common.{◌≡◌, ◌≤◌, ◌<◌, ◌+◌, ◌-◌, ◌⊎◌, ◌∙◌, ℕ, inl, List, length, Option, Some, None, Ok, Err, refl, sym, ap, subst, ⊎_elim, arith, ◌≢◌}
+use Rattle.std.proofs.Common.{◌≡◌, ◌≤◌, ◌<◌, ◌+◌, ◌-◌, ◌*◌, ◌∙◌, ℕ, List, length, true, Option, Some, None, Ok, Err, refl, sym, ap, subst, arith, ◌≢◌}
 use Rattle.std.specs.Prelude.{IfSome, Result}
-use Rattle.model_base.specs.{IsWithinLimits}
+use Rattle.model_base.proofs.ShapeLimits.{sizes_facts}
+use Rattle.model_base.specs.{IsWithinLimits, run_shape}
 use Rattle.model_base.specs.declared.shape.Shape.{Shape}
 use Rattle.model_device.specs.{sector, settled}
 use Rattle.model_device.specs.Disk.{Disk}
-use Rattle.model_log.specs.{checkpoint_text, layout_of, log_device_length, newest_checkpoint, place_of, read_head}
+use Rattle.model_log.specs.{checkpoint_text, has_sizes_of, header_block, layout_of, log_device_length, newest_checkpoint, place_of}
 use Rattle.model_log.specs.declared.head.Format.{Format}
 use Rattle.model_log.specs.declared.head.Format.TheVariants.{One, Two, Three}
-use Rattle.model_log.specs.declared.head.Head.TheVariants.{Good}
 use Rattle.model_log.specs.declared.layout.Layout.{Layout}
 use Rattle.model_store.specs.{IsFairLog, IsOrderly}
 use Rattle.model_store.specs.Reading.{Reading}
 use Rattle.model_store.specs.declared.tail.Tail.{Tail}
-use Rattle.model_parts.specs.{found_layout, IsCleared, IsClearing, IsFresh, IsMigrated, IsMigrating, IsPut, IsPutting, IsRewritten, IsUnopened, KeepsOpened, next_number, numbers_taken, start_block, start_of}
-use Rattle.model_parts.specs.Opened.{ReadsOpened}
+use Rattle.model_store.proofs.Heads.{head-sizes}
+use Rattle.model_parts.specs.{found_layout, IsCleared, IsClearing, IsFresh, IsPut, IsPutting, IsUnopened, KeepsOpened, next_number, numbers_taken, start_block, start_of}
 use Rattle.model_parts.proofs.Clearing.{clearing-header, cleared-clearing, IsTailIn}
-use Rattle.model_parts.proofs.Fresh.{alike-head, marked-fresh, marking-reads}
-use Rattle.model_parts.proofs.Keeping.{clearing-keeps}
-use Rattle.model_parts.proofs.Migration.{head-first, migrated-fresh, migrating-reads}
-use Rattle.model_parts.proofs.Pages.{stored-image}
+use Rattle.model_parts.proofs.Fresh.{marked-fresh}
+use Rattle.model_parts.proofs.Keeping.{clearing-keeps, marking-keeps}
+use Rattle.model_parts.proofs.Newest.{checkpoint-place}
 use Rattle.model_parts.proofs.Reread.{IsLogRead, log-read, same-head_of, same-newest, tail-read}
 use Rattle.redo_disk.specs.Seen.{Seen}
 use Rattle.redo_disk.specs.declared.error.DevError.{DevError}
 use Rattle.redo_disk.proofs.Told.{known-as, told-step}
 use Rattle.redo_open.specs.Clear.{ClearsLog, ClearStep, HasClearedLog, ring_end}
-use Rattle.redo_open.specs.Devices.{IsFreshLog, IsFrom, IsNotOpened, OpensFrom, WhereBothTell}
-use Rattle.redo_open.specs.Mark.{HasMarked, IsMarked, IsMigratingNext, IsUnmoved, Marks, MarkStep, next_text}
+use Rattle.redo_open.specs.Devices.{IsFrom, IsNotOpened, OpensFrom, WhereBothTell}
+use Rattle.redo_open.specs.Mark.{next_text}
 use Rattle.redo_open.specs.Places.{KeepsPlaces, HoldsPlaces}
-use Rattle.redo_open.specs.Put.{IsAtRestTo}
+use Rattle.redo_open.specs.Put.{HasPut, IsAtRestTo, PutsBlock, PutStep}
+use Rattle.redo_open.specs.Ready.{IsFreshBy, IsReadyAt, IsReadyLog, shape_by}
 use Rattle.redo_open.proofs.Entry.{still-found}
 use Rattle.redo_open.proofs.Rests.{base-image}
+use Rattle.redo_open.proofs.Sizes.{with_slots}
 
 pub both : (log data_told : Option Disk) (P Q : Disk → Type 0) (R : Disk → Disk → Type 0) → ((l d : Disk) → P l → Q d → R l d)
     → IfSome log P → IfSome data_told Q → WhereBothTell log data_told R
@@ -134,14 +135,11 @@ unmoved-clears opened tail log_old data_old log_bytes data_bytes told from known
     known-as told (Clears opened tail log_bytes) (IsNotOpened opened)
     (λ disk clears. not-opened opened tail log_old data_old log_bytes data_bytes disk.base from (clears disk.base (base-fair disk))) known
 
--- WHILE THE CHECKPOINTS ARE PUT.
+-- WHILE THE NEXT CHECKPOINT IS PUT.
 
--- the numbers of both don't go round
+-- its number doesn't go round
 next-is : (opened : Reading) (log_bytes data_bytes : List ℕ) → IsOrderly log_bytes data_bytes opened → next_number opened.number ≡ opened.number + 1
 next-is opened log_bytes data_bytes orderly = omega (arith, orderly.numbers_left)
-
-after-is : (opened : Reading) (log_bytes data_bytes : List ℕ) → IsOrderly log_bytes data_bytes opened → next_number (next_number opened.number) ≡ opened.number + 2
-after-is opened log_bytes data_bytes orderly = omega (arith, orderly.numbers_left)
 
 -- the checkpoint that comes next
 abbrev NextText : Reading → ℕ → List ℕ
@@ -153,114 +151,157 @@ cleared-rests opened tail log_old data_old log_bytes data_bytes disk from is =
     let log : IsLogRead log_bytes opened = log-read log_bytes data_bytes opened from.orderly.reads in
     record { rests = is.rests; long = omega (arith, log.long, is.cleared.then.same_length, is.cleared.first.same_length) }
 
+-- its place lies on the device
+place-rests : (opened : Reading) (tail : Option Tail) (log_old data_old : Seen) (log_bytes data_bytes : List ℕ)
+    (disk : Disk) → OpensFrom opened tail log_old data_old log_bytes data_bytes
+    → Cleared opened tail log_bytes disk → IsAtRestTo (512 * place_of (next_number opened.number) + 512) disk
+place-rests opened tail log_old data_old log_bytes data_bytes disk from is =
+    let rests = cleared-rests opened tail log_old data_old log_bytes data_bytes disk from is in
+    let at = checkpoint-place (next_number opened.number) in
+    record { rests = rests.rests; long = omega (arith, rests.long, at.1) }
+
+-- the step that puts it
+abbrev pub MarkStep : Reading → ℕ → Seen → Result (Unit {0}) DevError → Seen → Type 0
+MarkStep opened lsn old result new =
+    PutStep (place_of (next_number opened.number))
+    (next_text opened.format opened.shape opened.number lsn) old result new
+
 -- at the lsn that the code has
 pub mark-there : (opened : Reading) (lsn start : ℕ) (old : Seen) (result : Result (Unit {0}) DevError) (new : Seen) → lsn ≡ start - 12 → start ≡ start_of opened
-    → MarkStep opened.format opened.shape opened.number lsn old result new → MarkStep opened.format opened.shape opened.number (start_block opened) old result new
-mark-there opened lsn start old result new is at = subst (λ (n : ℕ). MarkStep opened.format opened.shape opened.number n old result new) (is ∙ ap (λ n. n - 12) at)
+    → MarkStep opened lsn old result new → MarkStep opened (start_block opened) old result new
+mark-there opened lsn start old result new is at =
+    subst (λ (n : ℕ). MarkStep opened n old result new) (is ∙ ap (λ n. n - 12) at)
 
 -- the log that was cleared, and what becomes of it
 record HasMarks (opened : Reading) (tail : Option Tail) (log_bytes : List ℕ) (disk : Disk) : Type 0 where
   old_log : List ℕ
   cleared : IsCleared (found_layout opened) opened.ckpt (start_of opened) tail log_bytes old_log
-  marks : Marks opened.format opened.shape opened.number (start_block opened) old_log disk
-
-marks-read : (opened : Reading) (tail : Option Tail) (log_old data_old : Seen) (log_bytes data_bytes old_log image data_image : List ℕ) → OpensFrom opened tail log_old data_old log_bytes data_bytes
-    → IsCleared (found_layout opened) opened.ckpt (start_of opened) tail log_bytes old_log
-    → IsPutting (place_of (next_number opened.number)) (next_text opened.format opened.shape opened.number (start_block opened)) old_log image
-    ⊎ IsMigratingNext opened.format opened.shape opened.number (start_block opened) old_log image
-    → IsRewritten opened data_image → ReadsOpened opened image data_image
-marks-read opened tail log_old data_old log_bytes data_bytes old_log image data_image from cleared is rewritten =
-    let next : next_number opened.number ≡ opened.number + 1 = next-is opened log_bytes data_bytes from.orderly in
-    let after : next_number (next_number opened.number) ≡ opened.number + 2 = after-is opened log_bytes data_bytes from.orderly in
-    ⊎_elim
-    (λ putting. marking-reads opened log_bytes data_bytes old_log image data_image tail from.orderly from.found cleared
-    (subst (λ (n : ℕ). IsPutting (place_of n) (NextText opened n) old_log image) next putting) rewritten)
-    (λ later. migrating-reads opened log_bytes data_bytes old_log later.marked image data_image tail from.orderly from.found from.alike later.format_is cleared
-    (subst (λ (n : ℕ). IsPut (place_of n) (NextText opened n) old_log later.marked) next later.put)
-    (subst (λ (n : ℕ). IsMigrating opened.shape n (start_block opened) later.marked image) after later.migrating) rewritten) is
+  puts : PutsBlock (place_of (next_number opened.number)) (NextText opened (next_number opened.number)) old_log disk
 
 pub marking-both : (opened : Reading) (tail : Option Tail) (log_old data_old : Seen) (log_bytes data_bytes : List ℕ) (mid : Seen) (result : Result (Unit {0}) DevError) (new : Seen) (data_told : Option Disk)
     → OpensFrom opened tail log_old data_old log_bytes data_bytes → IfSome mid.tells (Cleared opened tail log_bytes)
-    → MarkStep opened.format opened.shape opened.number (start_block opened) mid result new → IfSome data_told (HoldsPlaces opened.shape opened)
+    → MarkStep opened (start_block opened) mid result new → IfSome data_told (HoldsPlaces opened.shape opened)
     → WhereBothTell new.tells data_told (KeepsOpened opened)
 marking-both opened tail log_old data_old log_bytes data_bytes mid result new data_told from known step second =
-    let Marked : Disk → Disk → Type 0 = λ a b. IsAtRestTo (log_device_length opened.shape) a → Marks opened.format opened.shape opened.number (start_block opened) a.reads b in
+    let k : ℕ = place_of (next_number opened.number) in
+    let text : List ℕ = NextText opened (next_number opened.number) in
+    let next : next_number opened.number ≡ opened.number + 1 = next-is opened log_bytes data_bytes from.orderly in
     both new.tells data_told (HasMarks opened tail log_bytes) (HoldsPlaces opened.shape opened) (KeepsOpened opened)
-    (λ l d has holds image data_image fair data_fair. marks-read opened tail log_old data_old log_bytes data_bytes has.old_log image data_image from has.cleared (has.marks image fair)
-    (stored-image opened d data_image from.orderly.reads.count holds data_fair))
-    (told-step mid.tells new.tells (Cleared opened tail log_bytes) (HasMarks opened tail log_bytes) Marked
-    (λ a b cleared marks. record {
+    (λ l d has holds. marking-keeps opened log_bytes data_bytes has.old_log tail l d from.orderly from.found has.cleared
+    (λ image fair. subst (λ (n : ℕ). IsPutting (place_of n) (NextText opened n) has.old_log image) next
+    (has.puts image fair))
+    holds)
+    (told-step mid.tells new.tells (Cleared opened tail log_bytes) (HasMarks opened tail log_bytes)
+    (λ a b. IsAtRestTo (512 * k + 512) a → PutsBlock k text a.reads b)
+    (λ a b cleared puts. record {
       old_log = a.reads;
       cleared = cleared.cleared;
-      marks = marks (cleared-rests opened tail log_old data_old log_bytes data_bytes a from cleared);
+      puts = puts (place-rests opened tail log_old data_old log_bytes data_bytes a from cleared);
     }) known step.keeps)
     second
 
--- ONCE THEY STAY.
-
-taken-by : (opened : Reading) (format : Format) (n : ℕ) (disk : Disk) → opened.format ≡ format → n ≡ opened.number + numbers_taken format → IsFresh opened.shape (start_of opened) n disk
-    → IsFresh opened.shape (start_of opened) (opened.number + numbers_taken opened.format) disk
-taken-by opened format n disk is same fresh =
-    subst (λ (m : ℕ). IsFresh opened.shape (start_of opened) m disk) (same ∙ ap (λ (f : Format). opened.number + numbers_taken f) (sym is)) fresh
+-- ONCE IT STAYS, the store is ready by the format that was found.
 
 one-taken : (format : Format) → format ≢ One → numbers_taken format ≡ 1
 one-taken One other = absurd (other refl)
 one-taken Two other = refl
 one-taken Three other = refl
 
-marked-is_fresh : (opened : Reading) (tail : Option Tail) (log_old data_old : Seen) (log_bytes data_bytes old_log image : List ℕ) → OpensFrom opened tail log_old data_old log_bytes data_bytes
-    → IsCleared (found_layout opened) opened.ckpt (start_of opened) tail log_bytes old_log → IsMarked opened.format opened.shape opened.number (start_block opened) old_log image
-    → IsFresh opened.shape (start_of opened) (opened.number + numbers_taken opened.format) (settled image)
-marked-is_fresh opened tail log_old data_old log_bytes data_bytes old_log image from cleared marked =
-    let next : next_number opened.number ≡ opened.number + 1 = next-is opened log_bytes data_bytes from.orderly in
-    let after : next_number (next_number opened.number) ≡ opened.number + 2 = after-is opened log_bytes data_bytes from.orderly in
-    ⊎_elim
-    (λ other. taken-by opened opened.format (opened.number + 1) (settled image) refl (ap (λ (n : ℕ). opened.number + n) (sym (one-taken opened.format other.0)))
-    (marked-fresh opened log_bytes data_bytes old_log image tail from.orderly from.found from.alike other.0 cleared
-    (subst (λ (n : ℕ). IsPut (place_of n) (NextText opened n) old_log image) next other.1)))
-    (λ one. taken-by opened One (opened.number + 2) (settled image) one.format_is refl
-    (migrated-fresh opened log_bytes data_bytes old_log one.marked image tail from.orderly from.found cleared
-    (subst (λ (n : ℕ). IsPut (place_of n) (NextText opened n) old_log one.marked) next one.put)
-    (subst (λ (n : ℕ). IsMigrated opened.shape n (start_block opened) one.marked image) after one.migrated))) marked
+-- a run can start, where that isn't the first one
+marked-is_fresh : (opened : Reading) (tail : Option Tail) (log_old data_old : Seen)
+    (log_bytes data_bytes old_log : List ℕ) (disk : Disk) → OpensFrom opened tail log_old data_old log_bytes data_bytes
+    → IsCleared (found_layout opened) opened.ckpt (start_of opened) tail log_bytes old_log → opened.format ≢ One
+    → IsPut (place_of (opened.number + 1)) (NextText opened (opened.number + 1)) old_log disk.base
+    → disk ≡ settled disk.base
+    → IsFreshBy opened.shape opened disk
+marked-is_fresh opened tail log_old data_old log_bytes data_bytes old_log disk from cleared other put nothing =
+    subst (IsFreshBy opened.shape opened) (sym nothing)
+    (subst (λ (n : ℕ). IsFresh opened.shape (start_of opened) n (settled disk.base))
+    (ap (λ (n : ℕ). opened.number + n) (sym (one-taken opened.format other)))
+    (marked-fresh opened log_bytes data_bytes old_log disk.base tail from.orderly from.found from.alike other cleared
+    put))
 
-pub marked-log : (opened : Reading) (tail : Option Tail) (log_old data_old : Seen) (log_bytes data_bytes : List ℕ)
+-- a store of format 3 has the sizes of a run
+found-sizes : (opened : Reading) (log_bytes data_bytes : List ℕ) → IsOrderly log_bytes data_bytes opened
+    → opened.format ≡ Three
+    → opened.shape ≡ run_shape opened.shape
+found-sizes opened log_bytes data_bytes orderly is =
+    let sizes = head-sizes (header_block 0 log_bytes) (header_block 2 log_bytes) opened.format opened.shape
+    orderly.reads.scan.devices.head.head in
+    let full = subst (λ (f : Format). has_sizes_of f opened.shape ≡ true) is sizes in
+    ap (with_slots opened.shape) (sizes_facts opened.shape full).1.1
+
+found-shape_by : (opened : Reading) (log_bytes data_bytes : List ℕ) (format : Format)
+    → IsOrderly log_bytes data_bytes opened → opened.format ≡ format
+    → opened.shape ≡ shape_by format opened.shape
+found-shape_by opened log_bytes data_bytes One orderly is = refl
+found-shape_by opened log_bytes data_bytes Two orderly is = refl
+found-shape_by opened log_bytes data_bytes Three orderly is = found-sizes opened log_bytes data_bytes orderly is
+
+marked-is_ready : (opened : Reading) (tail : Option Tail) (log_old data_old : Seen)
+    (log_bytes data_bytes old_log : List ℕ) (disk : Disk) (format : Format)
+    → OpensFrom opened tail log_old data_old log_bytes data_bytes
+    → IsCleared (found_layout opened) opened.ckpt (start_of opened) tail log_bytes old_log → opened.format ≡ format
+    → IsPut (place_of (opened.number + 1)) (NextText opened (opened.number + 1)) old_log disk.base
+    → disk ≡ settled disk.base
+    → IsReadyLog format opened log_bytes disk
+marked-is_ready opened tail log_old data_old log_bytes data_bytes old_log disk One from cleared is put nothing =
+    record {
+      format_is = is;
+      alike = from.alike;
+      tail = tail;
+      found = from.found;
+      old_log = old_log;
+      cleared = cleared;
+      put = put;
+      nothing_pending = nothing;
+    }
+marked-is_ready opened tail log_old data_old log_bytes data_bytes old_log disk Two from cleared is put nothing =
+    marked-is_fresh opened tail log_old data_old log_bytes data_bytes old_log disk from cleared
+    (λ one. (let other : Two ≡ One = sym is ∙ one in absurd cc)) put nothing
+marked-is_ready opened tail log_old data_old log_bytes data_bytes old_log disk Three from cleared is put nothing =
+    subst (λ (s : Shape). IsFreshBy s opened disk) (found-sizes opened log_bytes data_bytes from.orderly is)
+    (marked-is_fresh opened tail log_old data_old log_bytes data_bytes old_log disk from cleared
+    (λ one. (let other : Three ≡ One = sym is ∙ one in absurd cc)) put nothing)
+
+marked-log : (opened : Reading) (tail : Option Tail) (log_old data_old : Seen) (log_bytes data_bytes : List ℕ)
     (mid : Seen) (done : Unit {0}) (new : Seen)
     → OpensFrom opened tail log_old data_old log_bytes data_bytes → IfSome mid.tells (Cleared opened tail log_bytes)
-    → MarkStep opened.format opened.shape opened.number (start_block opened) mid (Ok done) new
-    → IfSome new.tells (IsFreshLog opened)
+    → MarkStep opened (start_block opened) mid (Ok done) new
+    → IfSome new.tells (IsReadyLog opened.format opened log_bytes)
 marked-log opened tail log_old data_old log_bytes data_bytes mid done new from known step =
-    let Marked : Disk → Disk → Type 0 = λ a b. IsAtRestTo (log_device_length opened.shape) a → HasMarked opened.format opened.shape opened.number (start_block opened) a.reads b in
-    told-step mid.tells new.tells (Cleared opened tail log_bytes) (IsFreshLog opened) Marked
-    (λ a b cleared marks. (
-    let has = marks (cleared-rests opened tail log_old data_old log_bytes data_bytes a from cleared) in
-    subst (IsFreshLog opened) (sym has.nothing_pending)
-    (marked-is_fresh opened tail log_old data_old log_bytes data_bytes a.reads b.base from cleared.cleared has.marked)))
+    let k : ℕ = place_of (next_number opened.number) in
+    let text : List ℕ = NextText opened (next_number opened.number) in
+    let next : next_number opened.number ≡ opened.number + 1 = next-is opened log_bytes data_bytes from.orderly in
+    told-step mid.tells new.tells (Cleared opened tail log_bytes) (IsReadyLog opened.format opened log_bytes)
+    (λ a b. IsAtRestTo (512 * k + 512) a → HasPut k text a.reads b)
+    (λ a b cleared puts. (
+    let has : HasPut k text a.reads b = puts (place-rests opened tail log_old data_old log_bytes data_bytes a from
+    cleared) in
+    marked-is_ready opened tail log_old data_old log_bytes data_bytes a.reads b opened.format from cleared.cleared refl
+    (subst (λ (n : ℕ). IsPut (place_of n) (NextText opened n) a.reads b.base) next has.put) has.nothing_pending))
     known step.ok
 
--- until then it isn't opened
-unmoved-image : (opened : Reading) (tail : Option Tail) (log_old data_old : Seen) (log_bytes data_bytes old_log : List ℕ) (disk : Disk) → OpensFrom opened tail log_old data_old log_bytes data_bytes
-    → IsCleared (found_layout opened) opened.ckpt (start_of opened) tail log_bytes old_log → IsUnmoved opened.format old_log disk → IsNotOpened opened disk
-unmoved-image opened tail log_old data_old log_bytes data_bytes old_log disk from cleared unmoved =
-    let log : IsLogRead log_bytes opened = log-read log_bytes data_bytes opened from.orderly.reads in
-    let is : IsTailIn (found_layout opened) opened.ckpt tail = tail-read log_bytes data_bytes opened tail from.orderly.reads from.found in
-    let clearing : IsClearing (found_layout opened) opened.ckpt (start_of opened) tail log_bytes old_log =
-    cleared-clearing (found_layout opened) opened.ckpt (start_of opened) tail log_bytes old_log log.log cleared in
-    let zero : sector 0 old_log ≡ sector 0 log_bytes = clearing-header (found_layout opened) opened.ckpt (start_of opened) tail log_bytes old_log 0 log.log is (omega arith) clearing in
-    let good : read_head (sector 0 log_bytes) ≡ Good opened.format opened.shape = sym (alike-head log_bytes from.alike) ∙ from.orderly.reads.scan.devices.head.head in
-    ⊎_elim
-    (λ same. subst (IsUnopened opened.shape opened.number opened.ckpt) (sym same)
-    (not-opened opened tail log_old data_old log_bytes data_bytes old_log from clearing))
-    (λ one. record {
-      format = opened.format;
-      head = head-first disk.base opened.format opened.shape (ap read_head (one.1 ∙ zero) ∙ good);
-      still = inl (λ three. (let other : One ≡ Three = sym one.0 ∙ three in absurd cc));
-    }) unmoved
+pub marked-ready : (opened : Reading) (tail : Option Tail) (log_old data_old : Seen) (log_bytes data_bytes : List ℕ)
+    (mid : Seen) (done : Unit {0}) (new data_new : Seen)
+    → OpensFrom opened tail log_old data_old log_bytes data_bytes → IfSome mid.tells (Cleared opened tail log_bytes)
+    → MarkStep opened (start_block opened) mid (Ok done) new → IfSome data_new.tells (HoldsPlaces opened.shape opened)
+    → IsReadyAt opened.format opened new data_new log_bytes data_bytes
+marked-ready opened tail log_old data_old log_bytes data_bytes mid done new data_new from known step holds = record {
+  orderly = from.orderly;
+  log_ready = marked-log opened tail log_old data_old log_bytes data_bytes mid done new from known step;
+  data_ready = subst (λ (s : Shape). IfSome data_new.tells (HoldsPlaces s opened))
+      (found-shape_by opened log_bytes data_bytes opened.format from.orderly refl) holds;
+}
 
+-- until then it isn't opened
 pub unmoved-marks : (opened : Reading) (tail : Option Tail) (log_old data_old : Seen) (log_bytes data_bytes : List ℕ) (mid : Seen) (error : DevError) (new : Seen)
     → OpensFrom opened tail log_old data_old log_bytes data_bytes → IfSome mid.tells (Cleared opened tail log_bytes)
-    → MarkStep opened.format opened.shape opened.number (start_block opened) mid (Err error) new → IfSome new.tells (IsNotOpened opened)
+    → MarkStep opened (start_block opened) mid (Err error) new → IfSome new.tells (IsNotOpened opened)
 unmoved-marks opened tail log_old data_old log_bytes data_bytes mid error new from known step =
+    let log : IsLogRead log_bytes opened = log-read log_bytes data_bytes opened from.orderly.reads in
     told-step mid.tells new.tells (Cleared opened tail log_bytes) (IsNotOpened opened)
-    (λ a b. IsAtRestTo (log_device_length opened.shape) a → IsUnmoved opened.format a.reads b)
-    (λ a b cleared unmoved. unmoved-image opened tail log_old data_old log_bytes data_bytes a.reads b from cleared.cleared
-    (unmoved (cleared-rests opened tail log_old data_old log_bytes data_bytes a from cleared))) known step.unmoved
+    (λ (a b : Disk). b.base ≡ a.base)
+    (λ a b cleared same. subst (IsUnopened opened.shape opened.number opened.ckpt) (sym same)
+    (not-opened opened tail log_old data_old log_bytes data_bytes a.base from
+    (cleared-clears opened tail log_bytes a log cleared a.base (base-fair a)))) known step.unmoved

@@ -3,6 +3,7 @@ pub mod Asked
 pub mod Blanks
 pub mod Both
 pub mod Causes
+pub mod Chains
 pub mod Clears
 pub mod Endings
 pub mod Enlarges
@@ -14,7 +15,6 @@ pub mod Gathers
 pub mod Headed
 pub mod Inside
 pub mod Lengths
-pub mod Marks
 pub mod Mends
 pub mod Migrates
 pub mod Opens
@@ -27,6 +27,7 @@ pub mod Rests
 pub mod Rows
 pub mod RunHeads
 pub mod Runs
+pub mod Sizes
 pub mod Standing
 pub mod Still
 pub mod Stores

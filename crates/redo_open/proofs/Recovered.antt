@@ -2,6 +2,7 @@
 use Rattle.std.proofs.Common.{◌≡◌, ◌≤◌, ◌<◌, ◌+◌, ◌%◌, ◌^◌, ◌∙◌, ℕ, List, Option, Ok, Err, refl, sym, ap, subst, ⊎_elim, arith}
 use Rattle.std.specs.Prelude.{IfErr, IfSome, IsErrOf, OnErr, OnOk, Result}
 use Rattle.std.proofs.lemmas.Bool.{cases_lt}
+use Rattle.std.proofs.lemmas.Result.{on_ok_weaker}
 use Rattle.model_base.proofs.ShapeLimits.{run_within}
 use Rattle.model_base.specs.{HasRisen, IsWithinLimits, run_shape}
 use Rattle.model_base.specs.declared.shape.Shape.{Shape}
@@ -26,11 +27,12 @@ use Rattle.redo_disk.specs.Seen.{Seen}
 use Rattle.redo_logdev.specs.Part.{Part as Log}
 use Rattle.redo_open.specs.Clear.{MayStart}
 use Rattle.redo_open.specs.Devices.{DevicesStep, IsFrom, IsNotOpened, IsOpenFault, OpensFrom, WhereBothTell}
-use Rattle.redo_open.specs.Enlarge.{IsReadyFrom, RunStep}
+use Rattle.redo_open.specs.Chain.{LinkStep}
 use Rattle.redo_open.specs.Opening.{IsOpenedAs, IsRunOn, IsStarted, OpenResult, OpensRecovered}
 use Rattle.redo_store.specs.{IsRunnable}
 use Rattle.redo_store.specs.declared.opened.Opened.{Opened}
 use Rattle.redo_open.proofs.Both.{both}
+use Rattle.redo_open.proofs.Chains.{ready-both}
 use Rattle.redo_open.proofs.Entry.{keeps-anyway, unmoved-anyway}
 use Rattle.redo_open.proofs.Rests.{settled-rests}
 use Rattle.redo_open.proofs.Told.{risen-since}
@@ -95,7 +97,7 @@ recovered-none log_seen data_seen opened tail log data_device = record {
   data_failed = λ is. absurd cc;
 }
 
--- THE STEPS of opening, and of taking the store to the sizes of a run.
+-- THE STEPS of opening, and of taking the store to the format of runs.
 
 -- all of them
 pub record OpensTo (opened : Reading) (tail : Option Tail) (log_old data_old : Seen)
@@ -125,26 +127,22 @@ failed-before opened tail log_old data_old fault log_new data_new step = record 
 }
 
 -- they went well, and the others come after them
-pub then-run : (opened : Reading) (tail : Option Tail) (log_old data_old log_mid data_mid : Seen) (done : Unit {0})
+pub then-linked : (opened : Reading) (tail : Option Tail) (log_old data_old log_mid data_mid : Seen) (done : Unit {0})
     (result : Result (Unit {0}) RecFault) (log_new data_new : Seen)
     → DevicesStep opened tail log_old data_old (Ok done) log_mid data_mid → log_old.faults ≤ log_mid.faults
     → data_old.faults ≤ data_mid.faults
     → log_mid.faults ≤ log_new.faults → data_mid.faults ≤ data_new.faults
-    → RunStep opened log_mid data_mid result log_new data_new
+    → LinkStep opened.format Three opened log_mid data_mid result log_new data_new
     → OpensTo opened tail log_old data_old result log_new data_new
-then-run opened tail log_old data_old log_mid data_mid done result log_new data_new first log_later data_later log_last
+then-linked opened tail log_old data_old log_mid data_mid done result log_new data_new first log_later data_later
+    log_last
     data_last step =
-    let ready : (log_bytes data_bytes : List ℕ) → OpensFrom opened tail log_old data_old log_bytes data_bytes
-    → IsReadyFrom opened log_mid data_mid log_bytes data_bytes =
-    λ log_bytes data_bytes from. record {
-      orderly = from.orderly;
-      log_fresh = first.fresh log_bytes data_bytes from;
-      data_stored = first.stored log_bytes data_bytes from;
-    } in
     record {
-      keeps = λ log_bytes data_bytes from. step.keeps log_bytes data_bytes (ready log_bytes data_bytes from);
-      ok = λ log_bytes data_bytes from. step.ok log_bytes data_bytes (ready log_bytes data_bytes from);
-      unmoved = λ log_bytes data_bytes from. step.unmoved log_bytes data_bytes (ready log_bytes data_bytes from);
+      keeps = λ log_bytes data_bytes from. step.keeps log_bytes data_bytes (first.ready log_bytes data_bytes from);
+      ok = λ log_bytes data_bytes from. on_ok_weaker result
+          (λ at. ready-both opened log_new data_new log_bytes data_bytes at)
+          (step.ok log_bytes data_bytes (first.ready log_bytes data_bytes from));
+      unmoved = λ log_bytes data_bytes from. step.unmoved log_bytes data_bytes (first.ready log_bytes data_bytes from);
       fault = step.fault;
       log_failed = λ is. risen-since log_old.faults log_mid.faults log_new.faults log_later log_last
           (step.log_failed is);

@@ -1,15 +1,16 @@
 -- Both devices while a store that was recovered is opened.
-use Rattle.std.specs.Prelude.{ℕ, ◌≡◌, ◌≤◌, ◌+◌, List, Option, Result, OnOk, OnErr, IfErr, IfSome, IsErrOf}
+use Rattle.std.specs.Prelude.{ℕ, ◌≡◌, ◌≤◌, List, Option, Result, OnOk, OnErr, IfErr, IfSome, IsErrOf}
 use Rattle.model_base.specs.{HasRisen}
 use Rattle.model_device.specs.{sector, settled}
 use Rattle.model_device.specs.Disk.{Disk}
-use Rattle.model_parts.specs.{found_layout, IsAtRest, IsFresh, IsUnopened, KeepsOpened, numbers_taken, start_of}
+use Rattle.model_parts.specs.{found_layout, IsAtRest, IsUnopened, KeepsOpened}
 use Rattle.model_store.specs.{AreFoundIn, IsOrderly}
 use Rattle.model_store.specs.Reading.{Reading}
 use Rattle.model_store.specs.declared.tail.Tail.{Tail}
 use Rattle.redo_disk.specs.{Call, MakesCalls}
 use Rattle.redo_disk.specs.Seen.{Seen}
-use Rattle.redo_open.specs.Places.{HoldsPlaces, IsPageFault}
+use Rattle.redo_open.specs.Places.{IsPageFault}
+use Rattle.redo_open.specs.Ready.{IsReadyAt}
 use Rattle.redo_recover.specs.declared.fault.RecFault.{RecFault}
 use Rattle.redo_recover.specs.declared.fault.RecFault.TheVariants.{LogDev, DataDev}
 
@@ -53,21 +54,16 @@ pub record OpensFrom (opened : Reading) (tail : Option Tail) (log data_device : 
   pub log_from : IfSome log.tells (IsFrom log_bytes)
   pub data_from : IfSome data_device.tells (λ disk. disk ≡ settled data_bytes)
 
--- a run by the store's own sizes can start on the log device
-abbrev pub IsFreshLog : Reading → Disk → Type 0
-IsFreshLog opened disk = IsFresh opened.shape (start_of opened) (opened.number + numbers_taken opened.format) disk
-
--- At each exit whatever a crash leaves is read with the opened pages, and after Ok each device is ready by the store's
--- own sizes;
--- where both devices told at first a store that is in order. Until then what stands on the log device tells that it
+-- At each exit whatever a crash leaves is read with the opened pages, and after Ok the store is ready by the format
+-- that was
+-- found; where both devices told at first a store that is in order. Until then what stands on the log device tells that
+-- it
 -- isn't opened.
 pub record DevicesStep (opened : Reading) (tail : Option Tail) (log_old data_old : Seen) (result : Result (Unit {0}) RecFault) (log_new data_new : Seen) : Type 0 where
   pub keeps : (log_bytes data_bytes : List ℕ) → OpensFrom opened tail log_old data_old log_bytes data_bytes
       → WhereBothTell log_new.tells data_new.tells (KeepsOpened opened)
-  pub fresh : (log_bytes data_bytes : List ℕ) → OpensFrom opened tail log_old data_old log_bytes data_bytes
-      → OnOk result (IfSome log_new.tells (IsFreshLog opened))
-  pub stored : (log_bytes data_bytes : List ℕ) → OpensFrom opened tail log_old data_old log_bytes data_bytes
-      → OnOk result (IfSome data_new.tells (HoldsPlaces opened.shape opened))
+  pub ready : (log_bytes data_bytes : List ℕ) → OpensFrom opened tail log_old data_old log_bytes data_bytes
+      → OnOk result (IsReadyAt opened.format opened log_new data_new log_bytes data_bytes)
   pub unmoved : (log_bytes data_bytes : List ℕ) → OpensFrom opened tail log_old data_old log_bytes data_bytes
       → OnErr result (IfSome log_new.tells (IsNotOpened opened))
   pub fault : IfErr result IsOpenFault

@@ -1,24 +1,19 @@
--- Both devices while a store of an earlier format gets the slots and places of a run, and then its headers.
-use Rattle.std.specs.Prelude.{ℕ, ◌≡◌, ◌≤◌, List, length, Some, Result, OnOk, OnErr, IfErr, IfSome, IsErrOf}
+-- Each device while a store of an earlier format gets the slots and places of a run, and then its headers.
+use Rattle.std.specs.Prelude.{ℕ, ◌≡◌, ◌≤◌, List, length, Some, Result, OnOk, OnErr}
 use Rattle.std.specs.List.{slice_index_or as get_or}
-use Rattle.model_base.specs.{HasRisen, run_shape}
+use Rattle.model_base.specs.{run_shape}
 use Rattle.model_base.specs.declared.shape.Shape.{Shape}
 use Rattle.model_device.specs.{IsImage, sector, settled}
 use Rattle.model_device.specs.Disk.{Disk}
 use Rattle.model_page.specs.{blank_page, data_device_length, page_check, place_lsn_by, user_part}
 use Rattle.model_page.specs.declared.content.Content.{Content}
-use Rattle.model_parts.specs.{IsEnlarged, IsHeaded, IsHeading, IsReady, KeepsOpened, KeepsStretches, place_at}
-use Rattle.model_store.specs.{IsFairLog, IsOrderly}
-use Rattle.model_store.specs.Reading.{Reading}
+use Rattle.model_parts.specs.{IsEnlarged, IsHeaded, IsHeading, KeepsStretches, place_at}
+use Rattle.model_store.specs.{IsFairLog}
 use Rattle.redo_disk.specs.{HasCause, OnTold, write_at, WriteStep}
 use Rattle.redo_disk.specs.Seen.{Seen}
 use Rattle.redo_disk.specs.declared.error.DevError.{DevError}
-use Rattle.redo_open.specs.Devices.{IsFreshLog, IsNotOpened, IsOpenFault, WhereBothTell}
-use Rattle.redo_open.specs.Places.{HoldsPlaces}
 use Rattle.redo_open.specs.Put.{IsAtRestTo}
 use Rattle.redo_open.specs.declared.heads.TheConstants.{HEADS}
-use Rattle.redo_recover.specs.declared.fault.RecFault.{RecFault}
-use Rattle.redo_recover.specs.declared.fault.RecFault.TheVariants.{LogDev, DataDev}
 
 -- THE DATA DEVICE.
 
@@ -78,26 +73,3 @@ pub record HeadStep (shape : Shape) (old : Seen) (result : Result (Unit {0}) Dev
       → sector 0 after.base ≡ sector 0 before.reads))
   pub size : new.size ≡ old.size
   pub cause : HasCause old.faults new.faults result
-
--- BOTH.
-
--- both devices hold this store, which was in order and is ready by its own sizes, where they tell
-pub record IsReadyFrom (opened : Reading) (log data_device : Seen) (log_bytes data_bytes : List ℕ) : Type 0 where
-  pub orderly : IsOrderly log_bytes data_bytes opened
-  pub log_fresh : IfSome log.tells (IsFreshLog opened)
-  pub data_stored : IfSome data_device.tells (HoldsPlaces opened.shape opened)
-
--- At each exit whatever a crash leaves is read with the opened pages, and after Ok a run can start. Until then what
--- stands on
--- the log device tells that the store isn't opened.
-pub record RunStep (opened : Reading) (log_old data_old : Seen) (result : Result (Unit {0}) RecFault)
-    (log_new data_new : Seen) : Type 0 where
-  pub keeps : (log_bytes data_bytes : List ℕ) → IsReadyFrom opened log_old data_old log_bytes data_bytes
-      → WhereBothTell log_new.tells data_new.tells (KeepsOpened opened)
-  pub ok : (log_bytes data_bytes : List ℕ) → IsReadyFrom opened log_old data_old log_bytes data_bytes
-      → OnOk result (WhereBothTell log_new.tells data_new.tells (IsReady opened))
-  pub unmoved : (log_bytes data_bytes : List ℕ) → IsReadyFrom opened log_old data_old log_bytes data_bytes
-      → OnErr result (IfSome log_new.tells (IsNotOpened opened))
-  pub fault : IfErr result IsOpenFault
-  pub log_failed : IsErrOf result LogDev → HasRisen log_old.faults log_new.faults
-  pub data_failed : IsErrOf result DataDev → HasRisen data_old.faults data_new.faults

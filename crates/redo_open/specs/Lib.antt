@@ -1,4 +1,5 @@
 pub mod Blank
+pub mod Chain
 pub mod Clear
 pub mod Devices
 pub mod Enlarge
@@ -13,6 +14,7 @@ pub mod Opening
 pub mod Places
 pub mod Put
 pub mod Puts
+pub mod Ready
 pub mod Rewrite
 pub mod Store
 pub mod Zeroing

@@ -1,4 +1,4 @@
--- The log device while a store of format 1 is taken to format 2.
+-- The log device while the log of a store of format 1 becomes one of format 2.
 use Rattle.std.specs.Prelude.{ℕ, ◌≡◌, List, Result, OnOk, OnErr}
 use Rattle.model_base.specs.declared.shape.Shape.{Shape}
 use Rattle.model_device.specs.{sector, settled}

@@ -1,31 +1,27 @@
 // Opening both devices.
 ghost use Rattle.std.specs.Prelude.{◌≡◌, ◌≤◌, ◌<◌, ◌^◌, ℕ, None, Some, IfSome, OnOk, slice_get};
-ghost use Rattle.model_base.specs.{IsWithinLimits, run_shape};
+ghost use Rattle.model_base.specs.{IsWithinLimits};
 ghost use Rattle.model_log.specs.{layout_of, log_device_length, start_after};
-ghost use Rattle.model_page.specs.{data_device_length};
 ghost use Rattle.model_page.specs.declared.content.Content.{Content};
-ghost use Rattle.redo_apply.specs.{ArePagesOf};
 ghost use Rattle.redo_disk.specs.{MayEndWith};
 ghost use Rattle.redo_open.specs.Clear.{MayStart};
 ghost use Rattle.redo_open.specs.Devices.{AreCalled, DevicesStep};
-ghost use Rattle.redo_open.specs.Enlarge.{RunStep};
 ghost use Rattle.redo_open.specs.Formatting.{WritesInside};
 ghost use Rattle.redo_open.specs.Mend.{IsSettledData};
 ghost use Rattle.redo_recover.specs.{AreFoundOn, ArePlacesOf, data_error_of, IsTailFound, log_error_of, reading_of};
 
 use crate::clear::clear;
-use crate::enlarge::{enlarge, put_run_heads};
 use crate::mark::mark;
 use crate::places::open_places;
 use model_log::BLOCK_HEADER;
 use redo_disk::Sectors;
 use redo_lsn::layout_of;
-use redo_recover::{RecFault, Recovered, data_fault, log_fault};
+use redo_recover::{RecFault, Recovered, log_fault};
 use redo_store::DataPart;
 use std::alloc::Global;
 
 /// Clears the log outside the kept range, repairs and writes the pages, and then puts the next checkpoint where the run
-/// starts. A store of format 1 is taken to format 2 after that.
+/// starts, by the format that was found: the store is ready by that format then.
 pub(crate) fn open_devices<L: Sectors, D: Sectors>(
     alloc: Global,
     log: &mut L,
@@ -75,36 +71,6 @@ pub(crate) fn open_devices<L: Sectors, D: Sectors>(
         recovered.number,
         start - BLOCK_HEADER,
     ) {
-        Ok(()) => Ok(()),
-        Err(error) => Err(log_fault(error)),
-    }
-}
-
-/// Takes a store that is ready by its own sizes to those of a run, where these are others: its slots and places first, and then
-/// its headers.
-pub(crate) fn enlarge_devices<L: Sectors, D: Sectors>(
-    log: &mut L,
-    data_device: &mut D,
-    recovered: &Recovered,
-) -> Result<(), RecFault>
-    requires limits { IsWithinLimits recovered.now.shape }
-    requires log_long { log_device_length recovered.now.shape ≤ (L.seen log.old).size }
-    requires data_long { data_device_length (run_shape recovered.now.shape) ≤ (D.seen data_device.old).size }
-    requires pages { ArePagesOf recovered.now.shape recovered.now.pages }
-    ensures step { RunStep (reading_of recovered.now) (L.seen log.old) (D.seen data_device.old)
-        result (L.seen log.new) (D.seen data_device.new) }
-    ensures called { AreCalled L.seen D.seen L.gives D.gives (MayEndWith (log_error_of result)) (MayEndWith (data_error_of result))
-        log.old log.new data_device.old data_device.new }
-    ensures inside { WritesInside L.gives D.gives (run_shape recovered.now.shape) log.old log.new data_device.old data_device.new }
-{
-    if recovered.shape == recovered.shape.run_shape() {
-        return Ok(());
-    }
-    match enlarge(data_device, &recovered.shape, &recovered.pages) {
-        Ok(()) => {}
-        Err(error) => return Err(data_fault(error)),
-    }
-    match put_run_heads(log, &recovered.shape) {
         Ok(()) => Ok(()),
         Err(error) => Err(log_fault(error)),
     }

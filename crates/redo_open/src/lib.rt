@@ -7,6 +7,7 @@
 
 mod batch;
 mod blank;
+mod chain;
 mod clear;
 mod devices;
 mod enlarge;

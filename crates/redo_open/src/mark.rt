@@ -1,22 +1,22 @@
-// The checkpoints of opening.
+// The checkpoint that opening makes by the format that was found.
 ghost use Rattle.std.specs.Prelude.{◌≡◌, ◌≤◌, ◌<◌, ◌^◌};
 ghost use Rattle.model_base.specs.{IsWithinLimits};
 ghost use Rattle.model_base.specs.declared.limits.TheConstants.{START_LSN};
 ghost use Rattle.model_device.specs.{IsWithin};
-ghost use Rattle.model_log.specs.{log_device_length};
+ghost use Rattle.model_log.specs.{log_device_length, place_of};
+ghost use Rattle.model_parts.specs.{next_number};
 ghost use Rattle.redo_disk.specs.{error_of, MakesCalls};
-ghost use Rattle.redo_open.specs.Mark.{MarkStep};
+ghost use Rattle.redo_open.specs.Mark.{next_text};
+ghost use Rattle.redo_open.specs.Put.{PutStep};
 ghost use Rattle.redo_open.specs.Puts.{PutsWhere};
 
-use crate::migrate::migrate;
 use crate::put::put_checkpoint;
 use model_base::Shape;
 use model_log::Format;
 use redo_disk::{DevError, Sectors};
 use redo_lsn::layout_of;
 
-/// Puts the checkpoint after the one of this number at this lsn, by the layout of the format that was found, and then takes
-/// a store of format 1 to format 2, which takes one more number.
+/// Puts the checkpoint after the one of this number at this lsn, by the layout of the format that was found.
 pub(crate) fn mark<L: Sectors>(
     log: &mut L,
     format: Format,
@@ -28,13 +28,9 @@ pub(crate) fn mark<L: Sectors>(
     requires long { log_device_length shape.now ≤ (L.seen log.old).size }
     requires started { START_LSN ≤ lsn }
     requires small { lsn < 2 ^ 61 }
-    ensures step { MarkStep format shape.now number lsn (L.seen log.old) result (L.seen log.new) }
+    ensures step { PutStep (place_of (next_number number)) (next_text format shape.now number lsn)
+        (L.seen log.old) result (L.seen log.new) }
     ensures calls { MakesCalls L.gives log.old log.new (PutsWhere (IsWithin (log_device_length shape.now)) (error_of result)) }
 {
-    let next = number.wrapping_add(1);
-    put_checkpoint(log, &layout_of(format, shape), next, lsn)?;
-    match format {
-        Format::One => migrate(log, shape, next.wrapping_add(1), lsn),
-        Format::Two | Format::Three => Ok(()),
-    }
+    put_checkpoint(log, &layout_of(format, shape), number.wrapping_add(1), lsn)
 }

@@ -1,4 +1,4 @@
-// A store of format 1 is taken to format 2, once each page is in its place.
+// The log of a store of format 1 becomes one of format 2, once each page is in its place.
 ghost use Rattle.std.specs.Prelude.{◌≡◌, ◌≤◌, ◌<◌, ◌^◌};
 ghost use Rattle.model_base.specs.{IsWithinLimits};
 ghost use Rattle.model_base.specs.declared.limits.TheConstants.{START_LSN};
@@ -17,7 +17,7 @@ use redo_lsn::{log_device_length, run_layout};
 
 /// Takes all log blocks away, for good, puts the next checkpoint at the same lsn by the layout of format 2, and then its
 /// header, into the first header block last: until that stays, the store is one of format 1.
-pub(crate) fn migrate<L: Sectors>(
+pub(crate) fn migrate_log<L: Sectors>(
     log: &mut L,
     shape: &Shape,
     number: u64,

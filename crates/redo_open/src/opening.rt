@@ -15,7 +15,8 @@ ghost use Rattle.redo_open.specs.Opening.{log_device_left, data_device_left, log
 ghost use Rattle.redo_store.specs.{IsRunnable};
 ghost use Rattle.redo_recover.specs.{AreFoundOn, IsOfDevices, OnContents, reading_of};
 
-use crate::devices::{enlarge_devices, open_devices};
+use crate::chain::migrate_from;
+use crate::devices::open_devices;
 use crate::heads::{make_alike, read_heads};
 use model_log::Format;
 use redo_disk::Sectors;
@@ -103,7 +104,13 @@ fn open_recovered<L: Sectors, D: Sectors>(
         Err(fault) => return Err((fault, log, store.into_dev())),
     }
     let mut data_device = store.into_dev();
-    match enlarge_devices(&mut log, &mut data_device, &recovered) {
+    match migrate_from(
+        &mut log,
+        &mut data_device,
+        &recovered,
+        start,
+        recovered.format,
+    ) {
         Ok(()) => {}
         Err(fault) => return Err((fault, log, data_device)),
     }

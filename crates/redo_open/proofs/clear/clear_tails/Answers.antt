@@ -1,11 +1,18 @@
 -- In formats 2 and 3 both tail blocks are cleared, and in format 1 there are none.
-use Rattle.std.proofs.Common.{arith}
+use Rattle.std.proofs.Common.{◌≡◌, ◌≢◌, ◌⊎◌, ◌∙◌, sym, ⊎_elim, arith}
+use Rattle.model_log.specs.declared.head.Format.{Format}
+use Rattle.model_log.specs.declared.head.Format.TheVariants.{One, Two, Three}
 use Rattle.model_parts.specs.{IsStaleTail}
 use Rattle.redo_open.specs.Clear.{IsStale, ring_end}
-use Rattle.redo_open.proofs.Marks.{two-or_three}
 use Rattle.redo_open.proofs.Puts.{put_nothing, put_weaker}
 use Rattle.redo_open.proofs.Zeroing.{erase_as, erase_nothing, within-longer}
 use Rattle.redo_open.proofs.clear.clear_tails.Goals as goal
+
+-- formats 2 and 3 are others than the first
+two-or_three : (format : Format) → (format ≡ Two) ⊎ (format ≡ Three) → format ≢ One
+two-or_three format is same =
+    ⊎_elim (λ two. let other : Two ≡ One = sym two ∙ same in absurd cc)
+    (λ three. let other : Three ≡ One = sym three ∙ same in absurd cc) is
 
 pub returns-in-One-clause-step : goal.returns-in-One-clause-step
 returns-in-One-clause-step g c =

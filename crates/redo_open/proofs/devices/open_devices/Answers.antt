@@ -10,7 +10,7 @@ use Rattle.redo_open.specs.Clear.{ring_end}
 use Rattle.redo_open.specs.Places.{IsReadAs}
 use Rattle.redo_open.specs.Puts.{PutsWhere}
 use Rattle.redo_open.proofs.Asked.{log_ends, beside_log, beside_pages}
-use Rattle.redo_open.proofs.Both.{cleared-known, clear-there, log-cleared, log-clears, marked-log, marking-both, mark-there, rewriting-both, ring-within, unmoved-clears, unmoved-marks}
+use Rattle.redo_open.proofs.Both.{cleared-known, clear-there, log-cleared, log-clears, marked-ready, marking-both, mark-there, rewriting-both, ring-within, unmoved-clears, unmoved-marks}
 use Rattle.redo_open.proofs.Causes.{log-cause, places-cause, log-risen, log-not_data, places-not_log}
 use Rattle.redo_open.proofs.Inside.{ends_of, puts_of, within-longer}
 use Rattle.redo_open.proofs.Opens.{unchanged-keeps}
@@ -40,8 +40,7 @@ returns-in-Err-clause-step g c =
       keeps = λ log_bytes data_bytes from. rewriting-both opened tail log_old data_old log_bytes data_bytes new.tells data_old.tells from
           (log-clears opened tail log_old data_old log_bytes data_bytes (Err c.in-Err.error) new from step)
           (unchanged-keeps opened.shape opened.pages log_bytes data_bytes opened data_old.tells (read-as log_bytes data_bytes opened from.orderly) c.requires.settled from.data_from);
-      fresh = λ log_bytes data_bytes from. tt;
-      stored = λ log_bytes data_bytes from. tt;
+      ready = λ log_bytes data_bytes from. tt;
       unmoved = λ log_bytes data_bytes from. unmoved-clears opened tail log_old data_old log_bytes data_bytes new.tells from
           (log-clears opened tail log_old data_old log_bytes data_bytes (Err c.in-Err.error) new from step);
       fault = log-cause c.in-Err.error c.log_fault.result c.log_fault.ensures;
@@ -63,8 +62,7 @@ returns-in-Err-open_places-clause-step g c =
       keeps = λ log_bytes data_bytes from. rewriting-both opened tail log_old data_old log_bytes data_bytes new.tells data_new.tells from
           (cleared-known opened tail log_old data_old log_bytes data_bytes new.tells from (log-cleared opened tail log_old data_old log_bytes data_bytes tt new from step))
           (places.keeps log_bytes data_bytes opened (read-as log_bytes data_bytes opened from.orderly) from.data_from);
-      fresh = λ log_bytes data_bytes from. tt;
-      stored = λ log_bytes data_bytes from. tt;
+      ready = λ log_bytes data_bytes from. tt;
       unmoved = λ log_bytes data_bytes from. unmoved-clears opened tail log_old data_old log_bytes data_bytes new.tells from
           (cleared-known opened tail log_old data_old log_bytes data_bytes new.tells from (log-cleared opened tail log_old data_old log_bytes data_bytes tt new from step));
       fault = places-cause c.in-Err-open_places.fault places.own;
@@ -88,10 +86,10 @@ returns-in-Ok-mark-clause-step g c =
       keeps = λ log_bytes data_bytes from. marking-both opened tail log_old data_old log_bytes data_bytes mid (Ok tt) new data_new.tells from
           (log-cleared opened tail log_old data_old log_bytes data_bytes tt mid from step) marks
           (places.ok log_bytes data_bytes opened (read-as log_bytes data_bytes opened from.orderly) from.data_from);
-      fresh = λ log_bytes data_bytes from. marked-log opened tail log_old data_old log_bytes data_bytes mid tt new from
-          (log-cleared opened tail log_old data_old log_bytes data_bytes tt mid from step) marks;
-      stored = λ log_bytes data_bytes from.
-          places.ok log_bytes data_bytes opened (read-as log_bytes data_bytes opened from.orderly) from.data_from;
+      ready = λ log_bytes data_bytes from. marked-ready opened tail log_old data_old log_bytes data_bytes mid tt new
+          data_new from
+          (log-cleared opened tail log_old data_old log_bytes data_bytes tt mid from step) marks
+          (places.ok log_bytes data_bytes opened (read-as log_bytes data_bytes opened from.orderly) from.data_from);
       unmoved = λ log_bytes data_bytes from. tt;
       fault = tt;
       log_failed = λ failed. absurd cc;
@@ -114,8 +112,7 @@ returns-in-Err-mark-clause-step g c =
       keeps = λ log_bytes data_bytes from. marking-both opened tail log_old data_old log_bytes data_bytes mid (Err c.in-Err-mark.error) new data_new.tells from
           (log-cleared opened tail log_old data_old log_bytes data_bytes tt mid from step) marks
           (places.ok log_bytes data_bytes opened (read-as log_bytes data_bytes opened from.orderly) from.data_from);
-      fresh = λ log_bytes data_bytes from. tt;
-      stored = λ log_bytes data_bytes from. tt;
+      ready = λ log_bytes data_bytes from. tt;
       unmoved = λ log_bytes data_bytes from. unmoved-marks opened tail log_old data_old log_bytes data_bytes mid c.in-Err-mark.error new from
           (log-cleared opened tail log_old data_old log_bytes data_bytes tt mid from step) marks;
       fault = log-cause c.in-Err-mark.error c.log_fault-in-Err-mark.result c.log_fault-in-Err-mark.ensures;

@@ -17,7 +17,7 @@ use Rattle.redo_recover.specs.{AreNotAhead, data_error, log_error, reading_of}
 use Rattle.redo_open.specs.Clear.{MayStart}
 use Rattle.redo_open.specs.Devices.{AreCalled, DevicesStep}
 use Rattle.redo_open.specs.Opening.{OpensRecovered}
-use Rattle.redo_open.proofs.Recovered.{failed-before, IsStartable, may-start, not-ahead-of-start, recovered-none, recovered-failed, recovered-started, then-run}
+use Rattle.redo_open.proofs.Recovered.{failed-before, IsStartable, may-start, not-ahead-of-start, recovered-none, recovered-failed, recovered-started, then-linked}
 use Rattle.redo_recover.specs.declared.fault.RecFault.{RecFault}
 use Rattle.redo_recover.specs.declared.fault.RecFault.TheVariants.{NoMemory}
 use Rattle.redo_recover.specs.declared.recovered.Recovered.{Recovered}
@@ -84,12 +84,12 @@ returns-in-Err-open_devices-clause-step g c =
     (failed-before opened c.args.recovered.tail (log_seen c.args.log) (data_seen c.args.data_device) fault
     (log_seen c.open_devices.new.log) (data_seen left) step)
 
-pub returns-in-Err-enlarge_devices-clause-step : goal.returns-in-Err-enlarge_devices-clause-step
-returns-in-Err-enlarge_devices-clause-step g c =
+pub returns-in-Err-migrate_from-clause-step : goal.returns-in-Err-migrate_from-clause-step
+returns-in-Err-migrate_from-clause-step g c =
     let opened : Reading = reading_of c.args.recovered in
     let log_seen = g.L.Sectors.seen in
     let data_seen = g.D.Sectors.seen in
-    let fault = c.in-Err-enlarge_devices.fault in
+    let fault = c.in-Err-migrate_from.fault in
     let before = ap (λ (part : Part _). part.dev) c.in-Ok.ensures.part in
     let mid = c.into_dev-data_device.result in
     let step = first-step log_seen data_seen c.args.recovered c.args.log c.args.data_device mid c.in-Ok.store
@@ -98,12 +98,12 @@ returns-in-Err-enlarge_devices-clause-step g c =
     let called = first-called log_seen data_seen g.L.Sectors.gives g.D.Sectors.gives (MayEndWith None)
     (MayEndWith None) c.args.log c.open_devices.new.log c.args.data_device mid c.in-Ok.store
     c.open_devices.new.part before c.into_dev-data_device.ensures c.in-Ok-open_devices.ensures.called in
-    let last = c.in-Err-enlarge_devices.ensures in
+    let last = c.in-Err-migrate_from.ensures in
     recovered-failed log_seen data_seen opened c.args.recovered.tail (log_seen c.args.log)
-    (data_seen c.args.data_device) fault c.enlarge_devices.new.log c.enlarge_devices.new.data_device
-    (then-run opened c.args.recovered.tail (log_seen c.args.log) (data_seen c.args.data_device)
+    (data_seen c.args.data_device) fault c.migrate_from.new.log c.migrate_from.new.data_device
+    (then-linked opened c.args.recovered.tail (log_seen c.args.log) (data_seen c.args.data_device)
     (log_seen c.open_devices.new.log) (data_seen mid) tt (Err fault)
-    (log_seen c.enlarge_devices.new.log) (data_seen c.enlarge_devices.new.data_device) step called.log.later
+    (log_seen c.migrate_from.new.log) (data_seen c.migrate_from.new.data_device) step called.log.later
     called.data_device.later last.called.log.later last.called.data_device.later last.step)
 
 pub returns-clause-step : goal.returns-clause-step
@@ -134,12 +134,12 @@ returns-clause-step g c =
     let called = first-called log_seen data_seen g.L.Sectors.gives g.D.Sectors.gives (MayEndWith None)
     (MayEndWith None) c.args.log c.open_devices.new.log c.args.data_device mid c.in-Ok.store
     c.open_devices.new.part before c.into_dev-data_device.ensures c.in-Ok-open_devices.ensures.called in
-    let last = c.in-Ok-enlarge_devices.ensures in
+    let last = c.in-Ok-migrate_from.ensures in
     recovered-started log_seen data_seen recovered start (log_seen c.args.log) (data_seen c.args.data_device)
-    c.enlarge_devices.new.log c.enlarge_devices.new.data_device c.start_run.result facts
-    (then-run opened recovered.tail (log_seen c.args.log) (data_seen c.args.data_device)
+    c.migrate_from.new.log c.migrate_from.new.data_device c.start_run.result facts
+    (then-linked opened recovered.tail (log_seen c.args.log) (data_seen c.args.data_device)
     (log_seen c.open_devices.new.log) (data_seen mid) tt (Ok tt)
-    (log_seen c.enlarge_devices.new.log) (data_seen c.enlarge_devices.new.data_device) step called.log.later
+    (log_seen c.migrate_from.new.log) (data_seen c.migrate_from.new.data_device) step called.log.later
     called.data_device.later last.called.log.later last.called.data_device.later last.step)
     c.start_run.ensures
 
@@ -165,20 +165,20 @@ returns-in-Err-open_devices-clause-called g c =
     (ap (λ (part : Part _). part.dev) c.in-Ok.ensures.part) c.into_dev.ensures
     c.in-Err-open_devices.ensures.called
 
-pub returns-in-Err-enlarge_devices-clause-called : goal.returns-in-Err-enlarge_devices-clause-called
-returns-in-Err-enlarge_devices-clause-called g c =
+pub returns-in-Err-migrate_from-clause-called : goal.returns-in-Err-migrate_from-clause-called
+returns-in-Err-migrate_from-clause-called g c =
     called_then
     (first-called g.L.Sectors.seen g.D.Sectors.seen g.L.Sectors.gives g.D.Sectors.gives (MayEndWith None)
     (MayEndWith None)
     c.args.log c.open_devices.new.log c.args.data_device c.into_dev-data_device.result c.in-Ok.store
     c.open_devices.new.part (ap (λ (part : Part _). part.dev) c.in-Ok.ensures.part)
     c.into_dev-data_device.ensures c.in-Ok-open_devices.ensures.called)
-    c.in-Err-enlarge_devices.ensures.called
+    c.in-Err-migrate_from.ensures.called
 
 pub returns-clause-called : goal.returns-clause-called
 returns-clause-called g c =
-    started_called g.L.Sectors.seen g.D.Sectors.seen c.args.log c.args.data_device c.enlarge_devices.new.log
-    c.enlarge_devices.new.data_device
+    started_called g.L.Sectors.seen g.D.Sectors.seen c.args.log c.args.data_device c.migrate_from.new.log
+    c.migrate_from.new.data_device
     c.args.recovered c.start_after-start.result c.start_run.result c.start_run.ensures
     (called_then
     (first-called g.L.Sectors.seen g.D.Sectors.seen g.L.Sectors.gives g.D.Sectors.gives (MayEndWith None)
@@ -186,7 +186,7 @@ returns-clause-called g c =
     c.args.log c.open_devices.new.log c.args.data_device c.into_dev-data_device.result c.in-Ok.store
     c.open_devices.new.part (ap (λ (part : Part _). part.dev) c.in-Ok.ensures.part)
     c.into_dev-data_device.ensures c.in-Ok-open_devices.ensures.called)
-    c.in-Ok-enlarge_devices.ensures.called)
+    c.in-Ok-migrate_from.ensures.called)
 
 -- THE LENGTHS.
 
@@ -203,22 +203,22 @@ returns-in-Err-open_devices-clause-inside g c =
     c.requires.of_devices.usable.limits (ap (λ (part : Part _). part.dev) c.in-Ok.ensures.part) c.into_dev.ensures
     c.in-Err-open_devices.ensures.inside
 
-pub returns-in-Err-enlarge_devices-clause-inside : goal.returns-in-Err-enlarge_devices-clause-inside
-returns-in-Err-enlarge_devices-clause-inside g c =
+pub returns-in-Err-migrate_from-clause-inside : goal.returns-in-Err-migrate_from-clause-inside
+returns-in-Err-migrate_from-clause-inside g c =
     inside_behind
     (first-inside g.L.Sectors.gives g.D.Sectors.gives c.args.recovered.shape c.args.log c.open_devices.new.log
     c.args.data_device c.into_dev-data_device.result c.in-Ok.store
     c.open_devices.new.part c.requires.of_devices.usable.limits (ap (λ (part : Part _). part.dev) c.in-Ok.ensures.part)
     c.into_dev-data_device.ensures c.in-Ok-open_devices.ensures.inside)
-    c.in-Err-enlarge_devices.ensures.inside
+    c.in-Err-migrate_from.ensures.inside
 
 pub returns-clause-inside : goal.returns-clause-inside
 returns-clause-inside g c =
-    started_inside c.enlarge_devices.new.log c.enlarge_devices.new.data_device c.args.recovered
+    started_inside c.migrate_from.new.log c.migrate_from.new.data_device c.args.recovered
     c.start_after-start.result c.start_run.result c.start_run.ensures
     (inside_behind
     (first-inside g.L.Sectors.gives g.D.Sectors.gives c.args.recovered.shape c.args.log c.open_devices.new.log
     c.args.data_device c.into_dev-data_device.result c.in-Ok.store
     c.open_devices.new.part c.requires.of_devices.usable.limits (ap (λ (part : Part _). part.dev) c.in-Ok.ensures.part)
     c.into_dev-data_device.ensures c.in-Ok-open_devices.ensures.inside)
-    c.in-Ok-enlarge_devices.ensures.inside)
+    c.in-Ok-migrate_from.ensures.inside)

@@ -15,7 +15,7 @@ use Rattle.redo_open.specs.Puts.{PutsWhere}
 use Rattle.redo_open.proofs.Lengths.{checkpoint-within, head-within}
 use Rattle.redo_open.proofs.Migrates.{Come, erase-come, erase-fails, first-ends, IsErasedLog, next-come, next-fails, second-come, second-fails}
 use Rattle.redo_open.proofs.Puts.{put_served, puts_then}
-use Rattle.redo_open.proofs.migrate.migrate.Goals as goal
+use Rattle.redo_open.proofs.migrate.migrate_log.Goals as goal
 
 -- the checkpoint by the layout that the code has
 there : (shape : Shape) (layout : Layout) (number lsn : ℕ) (old : Seen) (result : Result (Unit {0}) DevError) (new : Seen) → layout ≡ run_layout shape

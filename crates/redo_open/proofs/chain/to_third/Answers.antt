@@ -5,9 +5,10 @@ use Rattle.model_store.specs.Reading.{Reading}
 use Rattle.redo_open.proofs.Causes.{data-cause, data-not_log, data-risen, log-cause, log-not_data, log-risen}
 use Rattle.redo_open.proofs.Inside.{puts_of, within-longer}
 use Rattle.redo_open.proofs.Puts.{put_weaker}
-use Rattle.redo_open.proofs.Runs.{equal-run, enlarging-both, fresh-unopened, headed-both, heading-both, heading-unopened, keeps-already, other-run_early, ready-already}
+use Rattle.redo_open.proofs.Runs.{enlarging-both, fresh-unopened, headed-both, heading-both, heading-unopened, stored-keeps, ready-already}
+use Rattle.redo_open.proofs.Sizes.{equal-run, other-run_early}
 use Rattle.redo_recover.specs.{reading_of}
-use Rattle.redo_open.proofs.devices.enlarge_devices.Goals as goal
+use Rattle.redo_open.proofs.chain.to_third.Goals as goal
 
 pub returns-then-eq-clause-step : goal.returns-then-eq-clause-step
 returns-then-eq-clause-step g c =
@@ -17,7 +18,7 @@ returns-then-eq-clause-step g c =
     let same : opened.shape ≡ run_shape opened.shape = equal-run opened.shape c.run_shape.result
     c.run_shape.ensures.shape (sym c.eq.ensures ∙ c.if-eq.true) in
     record {
-      keeps = λ log_bytes data_bytes from. keeps-already opened log data_device log_bytes data_bytes from;
+      keeps = λ log_bytes data_bytes from. stored-keeps opened log data_device log_bytes data_bytes from;
       ok = λ log_bytes data_bytes from. ready-already opened log data_device log_bytes data_bytes same from;
       unmoved = λ log_bytes data_bytes from. tt;
       fault = tt;
@@ -37,7 +38,7 @@ returns-in-Err-clause-step g c =
       keeps = λ log_bytes data_bytes from. enlarging-both opened log data_old log_bytes data_bytes opened.pages
           (Err c.in-Err.error) data_new from c.in-Err.ensures.step;
       ok = λ log_bytes data_bytes from. tt;
-      unmoved = λ log_bytes data_bytes from. fresh-unopened opened log.tells early from.log_fresh;
+      unmoved = λ log_bytes data_bytes from. fresh-unopened opened log.tells early from.log_ready;
       fault = data-cause c.in-Err.error c.data_fault.result c.data_fault.ensures;
       log_failed = λ failed. data-not_log c.in-Err.error c.data_fault.result c.data_fault.ensures failed;
       data_failed = data-risen data_old.faults data_new.faults c.in-Err.error c.data_fault.result c.data_fault.ensures
@@ -86,7 +87,7 @@ returns-in-Err-put_run_heads-clause-step g c =
           c.in-Ok.ensures.step step;
       ok = λ log_bytes data_bytes from. tt;
       unmoved = λ log_bytes data_bytes from. heading-unopened opened log_old c.in-Err-put_run_heads.error log_new
-          c.requires.limits early from.log_fresh step;
+          c.requires.limits early from.log_ready step;
       fault = log-cause c.in-Err-put_run_heads.error c.log_fault.result c.log_fault.ensures;
       log_failed = log-risen log_old.faults log_new.faults c.in-Err-put_run_heads.error c.log_fault.result
           c.log_fault.ensures step.cause;
