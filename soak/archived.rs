@@ -36,7 +36,7 @@ impl Archived {
             end: entry.end,
         });
         Some(Archived {
-            shape: store.shape,
+            shape: store.shape.of_run(),
             start,
             pages: store.pages.clone(),
             groups: groups.collect(),
