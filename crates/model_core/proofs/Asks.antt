@@ -4,8 +4,10 @@ use Rattle.model_core.specs.{Actor, Advance, checkpointer_op, CheckpointerState,
 use Rattle.model_core.specs.{reader_op, ReaderState}
 use Rattle.model_core.specs.Actors as actor
 use Rattle.model_core.specs.Advancing.{advance_op}
-use Rattle.model_core.specs.Holding.{advance_holds}
-use Rattle.model_core.specs.Holding.{closer_holds_tail, user_holds_tail, writer_holds_tail}
+use Rattle.model_core.specs.AdvanceRow.{advance_holds}
+use Rattle.model_core.specs.CloserRow.{closer_holds_tail}
+use Rattle.model_core.specs.UserRow.{user_hand, user_holds_tail}
+use Rattle.model_core.specs.WriterRow.{writer_hand, writer_holds_tail}
 use Rattle.model_core.specs.declared.ops.Op.{Op}
 use Rattle.model_core.specs.declared.ops.Op.TheVariants as op
 use Rattle.model_core.specs.declared.words.Word.TheVariants as word
@@ -28,8 +30,11 @@ use Rattle.model_core.specs.declared.steps.WriterStep.TheVariants as writer_step
 use Rattle.model_core.specs.declared.words.LinkBuffer.{LinkBuffer}
 use Rattle.model_core.specs.declared.words.LinkBuffer.TheVariants as link_buffer
 use Rattle.model_core.proofs.TurnWords.{advance_asks}
-use Rattle.model_core.specs.Hands.{HoldsNothing, IsFreeOp, IsFreeToCheck, checkpointer_hand, cleaner_hand, flusher_hand, user_hand, writer_hand}
-use Rattle.model_core.specs.Hands.{reader_hand}
+use Rattle.model_core.specs.Hands.{HoldsNothing, IsFreeOp, IsFreeToCheck}
+use Rattle.model_core.specs.CheckpointerRow.{checkpointer_hand}
+use Rattle.model_core.specs.CleanerRow.{cleaner_hand}
+use Rattle.model_core.specs.FlusherRow.{flusher_hand}
+use Rattle.model_core.specs.ReaderRow.{reader_hand}
 
 -- whoever asks for such an Op holds no slot
 user_frees : (u : UserState) (f : UserStep) → IsFreeOp (user_op u f) → user_hand u f ≡ None

@@ -17,8 +17,11 @@ use Rattle.model_core.specs.declared.steps.WriterStep.{WriterStep}
 use Rattle.model_core.specs.declared.steps.WriterStep.TheVariants as writer_step
 use Rattle.model_core.proofs.FailedSteps.{checkpointer_near_or, checkpointer_on, checkpointer_quiet, flusher_near_or, flusher_on, flusher_quiet, writer_near_or, writer_on, writer_quiet}
 use Rattle.model_core.proofs.FailedSteps.{reader_near_or, reader_on, reader_quiet}
-use Rattle.model_core.specs.Hands.{checkpointer_hand, flusher_hand, GivesFailed, hand, IsFreeToCheck, writer_hand}
-use Rattle.model_core.specs.Hands.{reader_hand}
+use Rattle.model_core.specs.CheckpointerRow.{checkpointer_hand}
+use Rattle.model_core.specs.FlusherRow.{flusher_hand}
+use Rattle.model_core.specs.Hands.{GivesFailed, hand, IsFreeToCheck}
+use Rattle.model_core.specs.WriterRow.{writer_hand}
+use Rattle.model_core.specs.ReaderRow.{reader_hand}
 
 -- who gives the log part back after a failed call has just stored its code: it was about to
 abbrev pub HasStored : Actor → ℕ → Type 0

@@ -37,8 +37,13 @@ use Rattle.model_core.specs.declared.steps.WriterStep.TheVariants as writer_step
 use Rattle.model_core.specs.declared.words.LinkBuffer.{LinkBuffer}
 use Rattle.model_core.specs.declared.words.LinkBuffer.TheVariants as link_buffer
 use Rattle.model_log.specs.declared.layout.TheConstants.{BLOCK_DATA}
-use Rattle.model_core.specs.Hands.{IsFreeToCheck, checkpointer_hand, cleaner_hand, flusher_hand, hand, user_hand, writer_hand}
-use Rattle.model_core.specs.Hands.{reader_hand}
+use Rattle.model_core.specs.Hands.{IsFreeToCheck, hand}
+use Rattle.model_core.specs.CheckpointerRow.{checkpointer_hand}
+use Rattle.model_core.specs.CleanerRow.{cleaner_hand}
+use Rattle.model_core.specs.FlusherRow.{flusher_hand}
+use Rattle.model_core.specs.UserRow.{user_hand}
+use Rattle.model_core.specs.WriterRow.{writer_hand}
+use Rattle.model_core.specs.ReaderRow.{reader_hand}
 
 -- what an Op does with what its actor holds, which is `before`, and after an answer `behind` of it
 abbrev pub Handles : Op → Option ℕ → (Answer → Option ℕ) → Type 0

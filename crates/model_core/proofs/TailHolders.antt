@@ -6,7 +6,7 @@ use Rattle.model_core.proofs.Lists.{set_at, set_else}
 use Rattle.model_core.proofs.Tails.{held_in}
 use Rattle.model_core.specs.Actors.{Actor}
 use Rattle.model_core.specs.Advancing.{advance_next, advance_op, ends, frees, stays_put, tail_at}
-use Rattle.model_core.specs.Holding.{advance_holds}
+use Rattle.model_core.specs.AdvanceRow.{advance_holds}
 use Rattle.model_core.specs.Answers.{heard, old_of}
 use Rattle.model_core.specs.CheckpointerProgram.{checkpointer_op}
 use Rattle.model_core.specs.CleanerProgram.{cleaner_op}
@@ -14,7 +14,10 @@ use Rattle.model_core.specs.CloserProgram.{closer_op, closer_took}
 use Rattle.model_core.specs.FlushLists.{Listed}
 use Rattle.model_core.specs.FlusherProgram.{flusher_op}
 use Rattle.model_core.specs.ReaderProgram.{reader_op}
-use Rattle.model_core.specs.Holding.{HasHolder, closer_holds_tail, holds_tail, user_holds_tail, writer_holds_tail}
+use Rattle.model_core.specs.Holding.{ChecksWithoutTail, HasHolder, holds_tail}
+use Rattle.model_core.specs.CloserRow.{closer_holds_tail}
+use Rattle.model_core.specs.UserRow.{user_holds_tail}
+use Rattle.model_core.specs.WriterRow.{writer_holds_tail}
 use Rattle.model_core.specs.Layout.{SharedWords}
 use Rattle.model_core.specs.NamedWords.{read, wrote}
 use Rattle.model_core.specs.Program.{checked, is_checking, next, own_op, own_took, took}
@@ -22,7 +25,6 @@ use Rattle.model_core.specs.States.{Advance, CheckpointerState, CleanerState, Cl
 use Rattle.model_core.specs.States.{ReaderState}
 use Rattle.model_core.specs.Tails.{tail_word}
 use Rattle.model_core.specs.UserProgram.{user_op, user_took}
-use Rattle.model_core.specs.Holding.{ChecksWithoutTail}
 use Rattle.model_core.specs.NamedTurn.{found, shared_answer, shared_left}
 use Rattle.model_core.specs.WriterProgram.{tail_after, writer_op, writer_took}
 use Rattle.model_core.specs.declared.ops.Answer.{Answer}

@@ -14,6 +14,7 @@ use Rattle.model_core.specs.declared.ops.Op.TheVariants as op
 use Rattle.model_core.specs.declared.ops.Step.TheVariants as step
 use Rattle.model_core.specs.declared.steps.CheckpointerStep.TheVariants as checkpointer_step
 use Rattle.model_core.specs.declared.limits.TheConstants.{CLOSED_LINKS, FLUSH_LISTS}
+use Rattle.model_log.specs.declared.layout.TheConstants.{BLOCK_HEADER}
 
 abbrev pub checkpointer_op : CheckpointerState → CheckpointerStep → Op
 checkpointer_op t checkpointer_step.LoadCtail = op.Load word.Ctail
@@ -67,6 +68,22 @@ checkpointer_waits t a _ = false
 abbrev pub checkpointer_ending : ℕ → CheckpointerStep → Step
 checkpointer_ending code checkpointer_step.Failed = step.Failed code
 checkpointer_ending code _ = step.Moved
+
+-- As a run begins at this lsn: the newest checkpoint stands at the start's block. The readers of the log have these numbers.
+abbrev pub new_checkpointer : ℕ → ℕ → ℕ → CheckpointerState
+new_checkpointer start first last = record {
+  own = start - BLOCK_HEADER;
+  ctail = 0;
+  flushed = 0;
+  to = 0;
+  list = 0;
+  first = first;
+  last = last;
+  reader = 0;
+  code = 0;
+  checks = false;
+  step = checkpointer_step.LoadCtail;
+}
 
 abbrev pub checkpointer_program : ActorProgram CheckpointerState
 checkpointer_program = record {

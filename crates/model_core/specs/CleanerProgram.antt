@@ -80,6 +80,23 @@ abbrev pub cleaner_ending : ℕ → CleanerStep → Step
 cleaner_ending code cleaner_step.Failed = step.Failed code
 cleaner_ending code _ = step.Moved
 
+-- as a run begins, with its pages, their size and the slots of a batch
+abbrev pub new_cleaner : ℕ → ℕ → ℕ → CleanerState
+new_cleaner pages page_size slots = record {
+  pages = pages;
+  page_size = page_size;
+  slots = slots;
+  flushed = 0;
+  page = 0;
+  left = 0;
+  newest = 0;
+  kept = [];
+  batch = [];
+  code = 0;
+  checks = false;
+  step = cleaner_step.LoadFlushed;
+}
+
 abbrev pub cleaner_program : ActorProgram CleanerState
 cleaner_program = record {
   checks = λ v. v.checks;

@@ -3,7 +3,7 @@ use Rattle.std.specs.Prelude.{Bool, cond, false, ℕ}
 use Rattle.model_core.specs.ActorProgram.{ActorProgram}
 use Rattle.model_core.specs.Advancing.{advance_next, advance_op, advance_took, ends, stays_put}
 use Rattle.model_core.specs.Answers.{old_of}
-use Rattle.model_core.specs.States.{CloserState}
+use Rattle.model_core.specs.States.{CloserState, no_advance}
 use Rattle.model_core.specs.declared.ops.Answer.{Answer}
 use Rattle.model_core.specs.declared.ops.Op.{Op}
 use Rattle.model_core.specs.declared.ops.Step.{Step}
@@ -34,6 +34,10 @@ closer_waits t a _ = false
 abbrev pub closer_ending : ℕ → CloserStep → Step
 closer_ending code closer_step.Failed = step.Failed code
 closer_ending code _ = step.Moved
+
+-- as a run begins
+abbrev pub new_closer : CloserState
+new_closer = record { advance = no_advance; code = 0; checks = false; step = closer_step.Advance advance_step.LoadTail }
 
 abbrev pub closer_program : ActorProgram CloserState
 closer_program = record {

@@ -44,6 +44,10 @@ abbrev pub flusher_ending : ℕ → FlusherStep → Step
 flusher_ending code flusher_step.Failed = step.Failed code
 flusher_ending code _ = step.Moved
 
+-- as a run begins at this lsn
+abbrev pub new_flusher : ℕ → FlusherState
+new_flusher start = record { last = start; write = 0; mark = 0; code = 0; checks = false; step = flusher_step.LoadWrite }
+
 abbrev pub flusher_program : ActorProgram FlusherState
 flusher_program = record {
   checks = λ f. f.checks;

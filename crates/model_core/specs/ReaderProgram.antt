@@ -1,6 +1,6 @@
 -- The program of a reader of the log: it reads the log back, block by block, up to FLUSHED, and stores in its word up
 -- to where it has it. The archiver has it by full blocks, and a follower by whole groups, which it hands on.
-use Rattle.std.specs.Prelude.{Bool, List, [], cond, drop, false, length, min, nat_le, take, true, ℕ, ◌%◌, ◌++◌, ◌+◌, ◌-◌, ◌==◌, ◌∷◌, ◌≡◌, ◌≤◌}
+use Rattle.std.specs.Prelude.{Bool, List, [], cond, drop, false, length, min, nat_le, replicate, take, true, ℕ, ◌%◌, ◌*◌, ◌++◌, ◌+◌, ◌-◌, ◌/◌, ◌==◌, ◌∷◌, ◌≡◌, ◌≤◌}
 use Rattle.std.specs.List.{AllByRecursion}
 use Rattle.model_base.specs.declared.limits.TheConstants.{BLOCK_SIZE, MAX_GROUP}
 use Rattle.model_log.specs.{IsGroupText, sn_of}
@@ -136,6 +136,23 @@ reader_waits r a _ = false
 abbrev pub reader_ending : ℕ → ReaderStep → Step
 reader_ending code reader_step.Failed = step.Failed code
 reader_ending code _ = step.Moved
+
+-- as a run begins: it has the log below the start, and the archiver below its block
+abbrev pub new_reader : ℕ → ℕ → ReaderState
+new_reader number start = record {
+  number = number;
+  own = cond (number == 0) (start - BLOCK_HEADER) start;
+  place = cond (number == 0) (start - BLOCK_HEADER) start;
+  mark = 0;
+  block = replicate BLOCK_SIZE 0;
+  at = start / BLOCK_SIZE * BLOCK_DATA;
+  kept = [];
+  texts = [];
+  lost = 0;
+  code = 0;
+  checks = false;
+  step = reader_step.LoadFlushed;
+}
 
 abbrev pub reader_program : ActorProgram ReaderState
 reader_program = record {

@@ -7,7 +7,7 @@ use Rattle.model_core.specs.Groups.{PageChange, CellWrite}
 use Rattle.model_core.specs.Lanes.{cell_of, lane_of, left_in_word}
 unfoldable use Rattle.model_core.specs.Packing.{lanes, packed}
 use Rattle.model_core.specs.Lsn.{floor, lsn}
-use Rattle.model_core.specs.States.{Line, LoadedMarks, UserState}
+use Rattle.model_core.specs.States.{Line, LoadedMarks, UserState, no_advance, none_loaded}
 use Rattle.model_core.specs.Tails.{tail_of}
 use Rattle.model_core.specs.declared.ops.Op.{Op}
 use Rattle.model_core.specs.declared.ops.Step.{Step}
@@ -229,6 +229,26 @@ abbrev pub user_ending : ℕ → UserStep → Step
 user_ending code user_step.Done = step.Ended
 user_ending code user_step.Failed = step.Failed code
 user_ending code _ = step.Moved
+
+-- as a run begins, with nothing done; a user that has no line is done
+abbrev pub new_user : ℕ → ℕ → List Line → UserState
+new_user user blocks lines = record {
+  user = user;
+  blocks = blocks;
+  lines = lines;
+  starts = [];
+  k = 0;
+  start = 0;
+  copied = 0;
+  page = 0;
+  cell = 0;
+  word = 0;
+  loaded = none_loaded;
+  advance = no_advance;
+  code = 0;
+  checks = cond (length lines == 0) false true;
+  step = cond (length lines == 0) user_step.Done user_step.LoadCheckpoint;
+}
 
 abbrev pub user_program : ActorProgram UserState
 user_program = record {

@@ -6,7 +6,7 @@ use Rattle.model_core.specs.Answers.{on_call, code_of, old_of, on_take}
 use Rattle.model_core.specs.Lanes.{cell_of, lane_of, left_in_word}
 unfoldable use Rattle.model_core.specs.Packing.{lanes}
 use Rattle.model_core.specs.Lsn.{ceiling, lsn}
-use Rattle.model_core.specs.States.{WriterState}
+use Rattle.model_core.specs.States.{WriterState, no_advance}
 use Rattle.model_core.specs.Tails.{tail_of}
 use Rattle.model_core.specs.declared.ops.Answer.{Answer}
 use Rattle.model_core.specs.declared.ops.Op.{Op}
@@ -117,6 +117,24 @@ writer_waits s a _ = false
 abbrev pub writer_ending : ℕ → WriterStep → Step
 writer_ending code writer_step.Failed = step.Failed code
 writer_ending code _ = step.Moved
+
+-- As a run begins: it has read up to the start, an lsn that is the place of a block's first data byte.
+abbrev pub new_writer : ℕ → ℕ → WriterState
+new_writer blocks start = record {
+  blocks = blocks;
+  tail = start;
+  write = start;
+  from = start / BLOCK_SIZE * BLOCK_DATA;
+  kept = [];
+  firsts = [];
+  advance = no_advance;
+  first = 0;
+  word = 0;
+  ckpt = 0;
+  code = 0;
+  checks = false;
+  step = writer_step.Advance advance_step.LoadTail;
+}
 
 abbrev pub writer_program : ActorProgram WriterState
 writer_program = record {

@@ -10,15 +10,16 @@ use Rattle.model_base.specs.declared.limits.TheConstants.{BLOCK_SIZE, LSN_LIMIT,
 use Rattle.model_core.proofs.Later.{took_later}
 use Rattle.model_core.proofs.Lists.{at_set, set_at, set_else}
 use Rattle.model_core.specs.{Actor, change_at, CheckpointerState, CleanerState, CloserState, Core, filled, Filling, flat, layout_of, FlusherState, has_log_space, Line, line_at, Listed, lsn, next, ReaderState, shared_answer, SharedWords, took, UserState, WriterState}
-use Rattle.model_core.specs.Hands.{hand, IsFreeToCheck, user_hand}
-use Rattle.model_core.specs.Later.{IsSameActor}
+use Rattle.model_core.specs.Hands.{hand, IsFreeToCheck}
+use Rattle.model_core.specs.UserRow.{user_hand, user_holds_tail}
+use Rattle.model_core.specs.Actors.{IsSameActor}
 use Rattle.model_core.specs.ReaderProgram.{reader_filled}
 use Rattle.model_core.specs.DataSide.{DataSide}
 use Rattle.model_core.specs.LogSide.{LogSide}
 use Rattle.model_core.specs.Setup.{Setup}
 use Rattle.model_core.specs.declared.steps.ReaderStep.{ReaderStep}
 use Rattle.model_core.specs.declared.words.LinkBuffer.{LinkBuffer}
-use Rattle.model_core.specs.Holding.{holds_tail, user_holds_tail}
+use Rattle.model_core.specs.Holding.{holds_tail}
 use Rattle.model_logcore.proofs.Frame.{total_set}
 use Rattle.model_logcore.proofs.NewUsers.{new_user_is}
 use Rattle.model_logcore.proofs.StartHolds.{start}

@@ -8,7 +8,13 @@ use Rattle.model_core.proofs.Hands.{Handles, handles, stays_free}
 use Rattle.model_core.proofs.Lists.{at_set, set_at, set_else}
 use Rattle.model_core.proofs.TurnWords.{IsOffTurns, IsPlain, next_off}
 use Rattle.model_core.specs.{Actor, checkpointer_op, CheckpointerState, cleaner_op, CleanerState, flusher_op, FlusherState, Listed, next, read, reader_op, ReaderState, shared_answer, shared_left, SharedWords, took, user_op, UserState, writer_op, WriterState, wrote}
-use Rattle.model_core.specs.Hands.{checkpointer_hand, cleaner_hand, flusher_hand, hand, IsFreeToCheck, reader_hand, user_hand, writer_hand}
+use Rattle.model_core.specs.CheckpointerRow.{checkpointer_hand}
+use Rattle.model_core.specs.CleanerRow.{cleaner_hand}
+use Rattle.model_core.specs.FlusherRow.{flusher_hand}
+use Rattle.model_core.specs.Hands.{hand, IsFreeToCheck}
+use Rattle.model_core.specs.ReaderRow.{reader_hand}
+use Rattle.model_core.specs.UserRow.{user_hand}
+use Rattle.model_core.specs.WriterRow.{writer_hand}
 use Rattle.model_core.specs.declared.limits.TheConstants.{FLUSH_LISTS}
 use Rattle.model_core.specs.declared.ops.Answer.{Answer}
 use Rattle.model_core.specs.declared.ops.Op.{Op}

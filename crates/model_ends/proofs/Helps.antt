@@ -7,7 +7,8 @@ use mathlib.Core.Option.{some}
 use native.Mathlib.Decide.{dec_le, ℕ_discrete}
 use Rattle.model_core.proofs.Groups.{tiles_at}
 use Rattle.model_core.proofs.Lsns.{lsn_le, lsn_near, lsn_same}
-use Rattle.model_core.specs.Holding.{user_holds_tail, writer_holds_tail}
+use Rattle.model_core.specs.UserRow.{user_holds_tail}
+use Rattle.model_core.specs.WriterRow.{writer_holds_tail}
 use Rattle.model_core.specs.{Actor, Advance, advance_holds, can_link, end_of, entries, Entry, entry, floor, FlusherState, flusher_holds, group_bytes, group_end, has_passed, has_room, holds, holds_tail, line, lsn, mode, read, SharedWords, UserState, writer_holds, WriterState}
 use Rattle.model_core.specs.LogSide.{LogSide}
 use Rattle.model_core.specs.Setup.{Setup}

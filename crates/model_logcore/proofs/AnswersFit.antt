@@ -12,7 +12,8 @@ use Rattle.model_core.proofs.Lanes.{part_word}
 use Rattle.model_core.proofs.Lsns.{floor_lsn, lsn_below, lsn_block, lsn_le, sn_below}
 use Rattle.model_core.proofs.Tails.{tail_in}
 use Rattle.model_core.specs.{Actor, Advance, advance_op, answer_limit, checkpointer_op, cleaner_op, closer_op, end_of, first_of, floor, flusher_op, group_bytes, left_in_word, Listed, lsn, next, old_of, read_place, shared_answer, SharedWords, tail_of, tail_word, user_fits, user_op, UserState, writer_fits, writer_op, WriterState}
-use Rattle.model_core.specs.Fitting.{Fitting, advance_fits}
+use Rattle.model_core.specs.AnswerFits.{Fitting}
+use Rattle.model_core.specs.AdvanceRow.{advance_fits}
 use Rattle.model_core.specs.LogSide.{LogSide}
 use Rattle.model_core.specs.Setup.{Setup}
 use Rattle.model_core.specs.declared.ops.Op.{Op}

@@ -2,7 +2,7 @@
 use Rattle.model_core.specs.declared.steps.ReaderStep.{ReaderStep}
 use Rattle.model_core.specs.declared.steps.ReaderStep.TheVariants as reader_step
 use Rattle.model_core.specs.States.{ReaderState}
-use Rattle.model_core.specs.Holding.{reader_holds}
+use Rattle.model_core.specs.ReaderRow.{reader_holds}
 use Rattle.model_logcore.specs.LogFits.{ReaderAt, ReaderFits}
 use Rattle.std.proofs.Common.{Bool, List, [], ap, arith, length, refl, set, subst, suc, sym, true, zero, ℕ, ⊎_elim, ◌%◌, ◌*◌, ◌+◌, ◌/◌, ◌<◌, ◌∙◌, ◌∷◌, ◌≡◌, ◌≢◌, ◌≤◌, inl, inr}
 use Rattle.std.specs.Prelude.{slice_index}

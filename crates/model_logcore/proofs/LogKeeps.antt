@@ -27,7 +27,7 @@ use Rattle.model_logcore.proofs.ReaderSteps.{appends_by, keeps_code, keeps_lost,
 use Rattle.model_core.specs.ReaderProgram.{archives, has_all, is_none, joined_texts, next_block, pending, reader_op, reader_took, to_append}
 use Rattle.model_core.specs.States.{ReaderState}
 use Rattle.model_core.specs.Lsn.{lsn}
-use Rattle.model_core.specs.Holding.{reader_holds}
+use Rattle.model_core.specs.ReaderRow.{reader_holds}
 use Rattle.model_core.specs.Actors.{Room}
 use Rattle.model_core.specs.declared.steps.ReaderStep.{ReaderStep}
 use Rattle.model_core.specs.declared.steps.ReaderStep.TheVariants as reader_step

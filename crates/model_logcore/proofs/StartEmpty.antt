@@ -1,11 +1,16 @@
 -- An actor that has done nothing holds no slot and no tail.
 use Rattle.model_core.specs.States.{ReaderState}
-use Rattle.model_core.specs.Hands.{reader_hand}
+use Rattle.model_core.specs.ReaderRow.{reader_hand}
 use Rattle.std.proofs.Common.{Bool, None, ap, cond, false, length, refl, true, ℕ, ◌==◌, ◌∙◌, ◌≡◌}
 use Rattle.model_core.specs.{CheckpointerState, CleanerState, CloserState, FlusherState, holds_tail, new_user, UserState, WriterState}
 use Rattle.model_core.specs.Actors as model
-use Rattle.model_core.specs.Hands.{checkpointer_hand, cleaner_hand, flusher_hand, hand, HoldsNothing, user_hand, writer_hand}
-use Rattle.model_core.specs.Holding.{closer_holds_tail, user_holds_tail, writer_holds_tail}
+use Rattle.model_core.specs.CheckpointerRow.{checkpointer_hand}
+use Rattle.model_core.specs.CleanerRow.{cleaner_hand}
+use Rattle.model_core.specs.FlusherRow.{flusher_hand}
+use Rattle.model_core.specs.Hands.{hand, HoldsNothing}
+use Rattle.model_core.specs.UserRow.{user_hand, user_holds_tail}
+use Rattle.model_core.specs.WriterRow.{writer_hand, writer_holds_tail}
+use Rattle.model_core.specs.CloserRow.{closer_holds_tail}
 use Rattle.model_core.specs.Setup.{Setup}
 use Rattle.model_core.specs.declared.steps.AdvanceStep.TheVariants as advance_step
 use Rattle.model_core.specs.declared.steps.CloserStep.TheVariants as closer_step

@@ -12,8 +12,10 @@ use Rattle.model_core.proofs.Lsns.{lsn_le}
 use Rattle.model_core.specs.{Actor, Advance, advance_of, end_of, Entry, entry, first_of, floor, group_bytes, group_end, holds_tail, line, lsn, SharedWords, UserState, WriterState}
 use Rattle.model_core.specs.LogSide.{LogSide}
 use Rattle.model_core.specs.Setup.{Setup}
-use Rattle.model_core.specs.Holding.{advance_holds}
-use Rattle.model_core.specs.Holding.{closer_holds_tail, user_holds_tail, writer_holds_tail}
+use Rattle.model_core.specs.AdvanceRow.{advance_holds}
+use Rattle.model_core.specs.CloserRow.{closer_holds_tail}
+use Rattle.model_core.specs.UserRow.{user_holds_tail}
+use Rattle.model_core.specs.WriterRow.{writer_holds_tail}
 use Rattle.model_core.specs.declared.steps.AdvanceStep.{AdvanceStep}
 use Rattle.model_core.specs.declared.steps.CloserStep.{CloserStep}
 use Rattle.model_core.specs.declared.steps.UserStep.{UserStep}

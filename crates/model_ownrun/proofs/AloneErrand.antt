@@ -6,7 +6,8 @@ use Rattle.std.proofs.lemmas.Bool.{leb-false, ltb-false}
 use Rattle.std.specs.Prelude.{nat_le, slice_index}
 use Rattle.model_core.proofs.Lsns.{lsn_le}
 use Rattle.model_core.proofs.Tails.{held_in, tail_in}
-use Rattle.model_core.specs.Holding.{user_holds_tail, writer_holds_tail}
+use Rattle.model_core.specs.UserRow.{user_holds_tail}
+use Rattle.model_core.specs.WriterRow.{writer_holds_tail}
 use Rattle.model_core.specs.{Advance, ceiling, flusher_op, flusher_took, FlusherState, has_log_space, has_whole_word}
 use Rattle.model_core.specs.{is_held, left_in_word, Listed, LogServed, lsn, Nothing, old_of, read_place, shared_left}
 use Rattle.model_core.specs.{SharedWords, stands_outside, tail_of, tail_word, UserState, word_end, writer_op}

@@ -6,7 +6,7 @@ use Rattle.std.specs.Prelude.{None}
 use lib.ListN.{get_elem?}
 use mathlib.Core.Option.{some, some-injective, some-ne-none}
 use Rattle.model_core.specs.ActorProgram.{opposite}
-use Rattle.model_core.specs.Holding.{writer_holds_tail}
+use Rattle.model_core.specs.WriterRow.{writer_holds_tail}
 use Rattle.model_core.specs.{Actor, flusher_holds, heard, holds, Listed, LogServed, lsn, old_of, shared_left}
 use Rattle.model_core.specs.{SharedWords, user_ending, user_op, user_took, user_waits, UserState, writer_holds}
 use Rattle.model_core.specs.DataSide.{DataSide}

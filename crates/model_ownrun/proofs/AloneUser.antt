@@ -11,7 +11,7 @@ use Rattle.model_core.specs.{has_space, heard, holds_tail, is_held, Line, line_a
 use Rattle.model_core.specs.{next_count, PageChange, shared_left, SharedWords, tail_of, tail_word}
 use Rattle.model_core.specs.{user_op, user_took, user_waits, UserState, with_link_room, without_link_room}
 use Rattle.model_core.specs.ActorProgram.{opposite}
-use Rattle.model_core.specs.Holding.{user_holds_tail}
+use Rattle.model_core.specs.UserRow.{user_holds_tail}
 use Rattle.model_core.specs.declared.ops.Op.TheVariants as op
 use Rattle.model_core.specs.declared.words.Word.TheVariants as word
 use Rattle.model_core.specs.DataSide.{DataSide}

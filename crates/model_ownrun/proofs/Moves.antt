@@ -7,7 +7,7 @@ use mathlib.Core.Option.{some}
 use Rattle.model_core.specs.{Actor, Advance, advance_op, flusher_holds, FlusherState, Lent, Listed, lists_left}
 use Rattle.model_core.specs.{LogServed, shared_answer, shared_left}
 use Rattle.model_core.specs.{SharedWords, UserState, writer_holds, WriterState}
-use Rattle.model_core.specs.Holding.{writer_holds_tail}
+use Rattle.model_core.specs.WriterRow.{writer_holds_tail}
 use Rattle.model_core.specs.DataSide.{DataSide}
 use Rattle.model_core.specs.LogSide.{LogSide}
 use Rattle.model_core.specs.Setup.{Setup}

@@ -3,7 +3,7 @@ use Rattle.std.proofs.Common.{subst, Bool, List, ap, arith, false, inr, refl, â„
 use lib.ListN.{get_elem?}
 use mathlib.Core.Option.{some}
 use Rattle.model_core.specs.{Actor, Listed, SharedWords, UserState}
-use Rattle.model_core.specs.Holding.{user_holds_tail}
+use Rattle.model_core.specs.UserRow.{user_holds_tail}
 use Rattle.model_core.specs.DataSide.{DataSide}
 use Rattle.model_core.specs.LogSide.{LogSide}
 use Rattle.model_core.specs.Setup.{Setup}

@@ -3,7 +3,7 @@ use Rattle.std.proofs.Common.{Bool, List, ap, arith, cond, eqb, eqb-true, false,
 use Rattle.std.proofs.Common.{◌+◌, ◌*◌, ◌∙◌, ◌≡◌}
 use Rattle.std.proofs.lemmas.Bool.{eqb-false}
 use Rattle.std.specs.Prelude.{nat_lt}
-use Rattle.model_core.specs.Holding.{writer_holds_tail}
+use Rattle.model_core.specs.WriterRow.{writer_holds_tail}
 use lib.ListN.{get_elem?}
 use mathlib.Core.Option.{some}
 use Rattle.model_core.proofs.Lists.{set_again}

@@ -7,28 +7,26 @@ use native.Mathlib.Decide.{dec_le}
 use Rattle.model_base.specs.declared.limits.TheConstants.{LSN_LIMIT}
 use Rattle.model_core.proofs.Groups.{tiles_at}
 use Rattle.model_core.proofs.Lsns.{lsn_le}
-use Rattle.model_core.specs.{Actor, checkpointer_op, cleaner_fits, cleaner_op, CleanerState, closer_fits, closer_op, CloserState, end_of, flusher_op, is_checking, Listed, lsn, next, old_of, own_op, PageFitting, shared_answer, SharedWords, user_op, writer_op, Advance, advance_op, user_page_fits, UserState}
+use Rattle.model_core.specs.{Actor, checkpointer_op, cleaner_op, closer_fits, closer_op, CloserState, end_of, flusher_op, is_checking, Listed, lsn, next, old_of, own_op, PageFitting, shared_answer, SharedWords, user_op, writer_op, Advance, advance_op, user_page_fits, UserState}
 use Rattle.model_core.specs.{reader_op}
 use Rattle.model_core.specs.AnswerFits.{AnswerFits}
 use Rattle.model_core.specs.DataSide.{DataSide}
 use Rattle.model_core.specs.LogSide.{LogSide}
 use Rattle.model_core.specs.Setup.{Setup}
 use Rattle.model_core.specs.declared.ops.Op.{Op}
-use Rattle.model_core.specs.declared.steps.CleanerStep.{CleanerStep}
 use Rattle.model_core.specs.declared.steps.CloserStep.{CloserStep}
 use Rattle.model_logcore.proofs.AnswersFit.{can_take, small_sn}
 use Rattle.model_logcore.specs.{LogGhost}
-use Rattle.model_pagecore.specs.{CleanerAt, CleanerFits, CloserFits, PageGhost, CloserAt, ClosingAt, UserClosingAt, UserPageFits}
+use Rattle.model_pagecore.specs.{CloserFits, PageGhost, CloserAt, ClosingAt, UserClosingAt, UserPageFits}
 use Rattle.model_running.proofs.Archiving.{lost_small}
 use Rattle.model_running.specs.Bounds.{HasBytes, HaveSmallCodes}
 use Rattle.model_running.specs.RunningStore.{BothHalves}
 use Rattle.model_core.specs.declared.words.Word.TheVariants as word
 use Rattle.model_core.specs.declared.ops.Op.TheVariants as op
 use Rattle.model_core.specs.declared.steps.CloserStep.TheVariants as closer_step
-use Rattle.model_core.specs.declared.steps.CleanerStep.TheVariants as cleaner_step
 use Rattle.model_core.specs.declared.steps.AdvanceStep.TheVariants as advance_step
 use Rattle.model_core.specs.declared.words.LinkBuffer.TheVariants as link_buffer
-use Rattle.model_core.specs.Fitting.{advance_fits}
+use Rattle.model_core.specs.AdvanceRow.{advance_fits}
 use Rattle.model_core.proofs.Tails.{tail_in}
 use Rattle.model_core.specs.declared.steps.UserStep.TheVariants as user_step
 use Rattle.model_core.specs.declared.steps.UserStep.{UserStep}
@@ -61,10 +59,6 @@ module _ (D : LogSide) (E : DataSide) (c : Setup) (m : SharedWords) (g : LogGhos
   closer_can t (closer_step.Advance s) o = advance_can t.advance s o
   closer_can t closer_step.Failed o = tt
 
-  cleaner_can : (v : CleanerState) → (f : CleanerStep) → CleanerAt E c m g.log h ls d seat v f → cleaner_fits (old_of (shared_answer ls broken code mark m (cleaner_op v f))) f
-  cleaner_can v cleaner_step.LoadFlushed at = tt
-  cleaner_can v _ at = tt
-
   checking_fits : (b : Bool) (o : Op) (P : ℕ → Type 0) → P (old_of (shared_answer ls broken code mark m o)) → cond b (Unit {0}) (P (old_of (shared_answer ls broken code mark m (cond b (op.Load word.Failed) o))))
   checking_fits true o P can = tt
   checking_fits false o P can = can
@@ -75,7 +69,7 @@ module _ (D : LogSide) (E : DataSide) (c : Setup) (m : SharedWords) (g : LogGhos
   pages_can (actor.Flusher t) at = checking_fits t.checks (flusher_op t t.step) (λ n. Unit {0}) tt
   pages_can (actor.Reader t) at = checking_fits t.checks (reader_op t t.step) (λ n. Unit {0}) tt
   pages_can (actor.Closer t) at = let f : CloserFits E c m g.log h ls d seat t = both.paged.each seat (actor.Closer t) at in checking_fits t.checks (closer_op t t.step) (λ n. closer_fits t n t.step) (closer_can t t.step f.step)
-  pages_can (actor.Cleaner v) at = let f : CleanerFits E c m g.log h ls d seat v = both.paged.each seat (actor.Cleaner v) at in checking_fits v.checks (cleaner_op v v.step) (λ n. cleaner_fits n v.step) (cleaner_can v v.step f.step)
+  pages_can (actor.Cleaner v) at = checking_fits v.checks (cleaner_op v v.step) (λ n. Unit {0}) tt
   pages_can (actor.Checkpointer t) at = checking_fits t.checks (checkpointer_op t t.step) (λ n. Unit {0}) tt
 
   small_code : m.failed < 2 ^ 32

@@ -7,8 +7,13 @@ use Rattle.model_core.specs.{checkpointer_holds, CheckpointerState, CleanerState
 use Rattle.model_core.specs.{reader_holds}
 use Rattle.model_core.specs.Actors as model
 use Rattle.model_core.specs.DataSide.{DataSide}
-use Rattle.model_core.specs.Hands.{checkpointer_hand, cleaner_hand, flusher_hand, hand, user_hand, writer_hand}
-use Rattle.model_core.specs.Hands.{reader_hand}
+use Rattle.model_core.specs.CheckpointerRow.{checkpointer_hand}
+use Rattle.model_core.specs.CleanerRow.{cleaner_hand}
+use Rattle.model_core.specs.FlusherRow.{flusher_hand}
+use Rattle.model_core.specs.Hands.{hand}
+use Rattle.model_core.specs.UserRow.{user_hand}
+use Rattle.model_core.specs.WriterRow.{writer_hand}
+use Rattle.model_core.specs.ReaderRow.{reader_hand}
 use Rattle.model_core.specs.LogSide.{LogSide}
 use Rattle.model_core.specs.Setup.{Setup}
 use Rattle.model_core.specs.declared.steps.CheckpointerStep.{CheckpointerStep}

@@ -22,7 +22,8 @@ use Rattle.model_core.specs.declared.words.LinkBuffer.TheVariants as link_buffer
 use Rattle.model_core.specs.declared.steps.CloserStep.TheVariants as closer_step
 use Rattle.model_core.specs.declared.steps.CloserStep.{CloserStep}
 use Rattle.model_core.specs.declared.steps.AdvanceStep.{AdvanceStep}
-use Rattle.model_core.specs.Holding.{closer_holds_tail, user_holds_tail}
+use Rattle.model_core.specs.CloserRow.{closer_holds_tail}
+use Rattle.model_core.specs.UserRow.{user_holds_tail}
 use Rattle.model_core.specs.Actors as actor
 use Rattle.model_core.specs.declared.steps.CleanerStep.TheVariants as cleaner_step
 use Rattle.model_core.specs.declared.steps.UserStep.TheVariants as user_step

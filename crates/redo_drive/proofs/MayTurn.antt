@@ -8,9 +8,8 @@ use Rattle.model_base.specs.{IsWithinLimits}
 use Rattle.model_base.specs.declared.limits.TheConstants.{BLOCK_SIZE, START_LSN}
 use Rattle.model_base.specs.declared.shape.Shape.{Shape}
 use Rattle.model_core.specs.Actors as model
-use Rattle.model_core.specs.AnswerFits.{AnswerFits}
+use Rattle.model_core.specs.AnswerFits.{AnswerFits, Fitting}
 use Rattle.model_core.specs.DataSide.{DataSide}
-use Rattle.model_core.specs.Fitting.{Fitting}
 use Rattle.model_core.specs.{answer_of, BatchPage, flat, KeptPage, layout_of, lent, Listed, lsn, next, old_of, OpWords, shared_answer}
 use Rattle.model_core.specs.{SharedWords, user_fits, user_op, UserState}
 use Rattle.model_core.specs.LogSide.{LogSide}

@@ -5,7 +5,9 @@ use lib.ListN.{get_elem?}
 use mathlib.Core.Option as maybe
 use Rattle.model_core.specs.{CheckpointerState, lsn, SharedWords, UserState, WriterState}
 use Rattle.model_core.specs.Actors as model
-use Rattle.model_core.specs.Hands.{checkpointer_hand, HoldsNothing, writer_hand}
+use Rattle.model_core.specs.CheckpointerRow.{checkpointer_hand}
+use Rattle.model_core.specs.Hands.{HoldsNothing}
+use Rattle.model_core.specs.WriterRow.{writer_hand}
 use Rattle.model_core.specs.LogSide.{LogSide}
 use Rattle.model_core.specs.Setup.{Setup}
 use Rattle.model_core.specs.declared.steps.CheckpointerStep.{CheckpointerStep}

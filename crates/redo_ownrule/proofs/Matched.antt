@@ -5,8 +5,9 @@ use lib.ListN.{get_elem?}
 use mathlib.Core.Option as maybe
 use Rattle.model_core.specs.{FlusherState, UserState, WriterState}
 use Rattle.model_core.specs.Actors as model
-use Rattle.model_core.specs.Hands.{flusher_hand, HoldsNothing, writer_hand}
-use Rattle.model_core.specs.Holding.{writer_holds_tail}
+use Rattle.model_core.specs.FlusherRow.{flusher_hand}
+use Rattle.model_core.specs.Hands.{HoldsNothing}
+use Rattle.model_core.specs.WriterRow.{writer_hand, writer_holds_tail}
 use Rattle.model_core.specs.LogSide.{LogSide}
 use Rattle.model_core.specs.declared.steps.AdvanceStep.TheVariants as advance_step
 use Rattle.model_core.specs.declared.steps.FlusherStep.{FlusherStep}

@@ -4,8 +4,8 @@ use Rattle.model_core.proofs.Hands.{stays_free}
 use Rattle.model_core.specs.{checked_of, FlusherState, flusher_took, heard, old_of, user_program, user_took, UserState}
 use Rattle.model_core.specs.{writer_took, WriterState}
 use Rattle.model_core.specs.Actors as model
-use Rattle.model_core.specs.Hands.{IsFreeToCheck, user_hand}
-use Rattle.model_core.specs.Holding.{user_holds_tail}
+use Rattle.model_core.specs.Hands.{IsFreeToCheck}
+use Rattle.model_core.specs.UserRow.{user_hand, user_holds_tail}
 use Rattle.model_core.specs.declared.words.LinkBuffer.{LinkBuffer}
 use Rattle.model_core.specs.declared.words.LinkBuffer.TheVariants as link_buffer
 use Rattle.model_core.specs.declared.ops.Answer.{Answer}

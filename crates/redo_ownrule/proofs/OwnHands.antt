@@ -3,7 +3,11 @@ use Rattle.std.proofs.Common.{List, Some, [], ap, arith, refl, set, subst, suc, 
 use lib.ListN.{get_elem?}
 use mathlib.Core.Option as maybe
 use Rattle.model_core.specs.Actors as model
-use Rattle.model_core.specs.Hands.{checkpointer_hand, flusher_hand, hand, reader_hand, writer_hand}
+use Rattle.model_core.specs.CheckpointerRow.{checkpointer_hand}
+use Rattle.model_core.specs.FlusherRow.{flusher_hand}
+use Rattle.model_core.specs.Hands.{hand}
+use Rattle.model_core.specs.ReaderRow.{reader_hand}
+use Rattle.model_core.specs.WriterRow.{writer_hand}
 use Rattle.model_core.specs.Holding.{holds}
 use Rattle.model_core.specs.{checkpointer_holds, CheckpointerState, flusher_holds, reader_holds, writer_holds}
 use Rattle.model_core.specs.declared.steps.CheckpointerStep.{CheckpointerStep}

@@ -4,7 +4,8 @@ use Rattle.model_core.proofs.TurnWords.{advance_asks}
 use Rattle.model_core.specs.{checked_of, FlusherState, flusher_took, heard, next, old_of, OnWord, took, user_op, user_program, user_took}
 use Rattle.model_core.specs.{user_waits, UserState, writer_took, WriterState}
 use Rattle.model_core.specs.Actors as model
-use Rattle.model_core.specs.Hands.{hand, IsFreeToCheck, user_hand}
+use Rattle.model_core.specs.Hands.{hand, IsFreeToCheck}
+use Rattle.model_core.specs.UserRow.{user_hand}
 use Rattle.model_core.specs.ActorProgram.{opposite}
 use Rattle.model_core.specs.declared.ops.Answer.{Answer}
 use Rattle.model_core.specs.declared.ops.Answer.TheVariants as answer

@@ -2,7 +2,7 @@
 use Rattle.std.proofs.Common.{Bool, Some, cond, false, length, refl, true, ℕ, ◌*◌, ◌++◌, ◌+◌, ◌-◌, ◌==◌, ◌≡◌}
 use Rattle.model_core.specs.{FlusherState, flusher_op, flusher_took, OnWord, UserState, writer_op, writer_took, WriterState}
 use Rattle.model_core.specs.Advancing.{advance_next, ends}
-use Rattle.model_core.specs.Hands.{user_hand}
+use Rattle.model_core.specs.UserRow.{user_hand}
 use Rattle.model_core.specs.Lanes.{lane_of, left_in_word}
 use Rattle.model_core.specs.Packing.{lanes}
 use Rattle.model_core.specs.Lsn.{lsn}

@@ -6,7 +6,8 @@ use Rattle.std.proofs.lemmas.List.{take_at}
 use Rattle.model_core.proofs.FailedCalls.{HasStored}
 use Rattle.model_core.proofs.Hands.{handles, Handles}
 use Rattle.model_core.specs.Actors as model
-use Rattle.model_core.specs.Hands.{GivesFailed, hand, IsFreeToCheck, reader_hand, StoresFailed}
+use Rattle.model_core.specs.Hands.{GivesFailed, hand, IsFreeToCheck, StoresFailed}
+use Rattle.model_core.specs.ReaderRow.{reader_hand}
 use Rattle.model_core.specs.Waiting.{ending, waits}
 use Rattle.model_core.specs.{archives, AreInFront, filled, Filling, Fills, Given, holds_tail, is_checking, IsText, joined_texts, lent, next, pending, reader_op, ReaderState, took}
 use Rattle.model_core.specs.ReaderProgram.{reader_filled, reader_fills, reader_waits}
