@@ -5,7 +5,7 @@ use Rattle.model_core.proofs.Rests.{rests}
 use Rattle.model_core.proofs.Waiting.{user_again, user_wait, wait_checks}
 use Rattle.model_core.specs.{checked, checked_of, heard, is_checking, next, old_of, own_op, own_took, step_of, took, user_program, user_took, UserState}
 use Rattle.model_core.specs.Actors as model
-use Rattle.model_core.specs.Actors.{IsSameActor}
+use Rattle.model_core.specs.Program.{IsSameActor}
 use Rattle.model_core.specs.{checkpointer_ending, cleaner_ending, closer_ending, flusher_ending, user_ending, user_waits, writer_ending}
 use Rattle.model_core.specs.{reader_ending}
 use Rattle.model_core.specs.Waiting.{ending, waits}

@@ -3,7 +3,8 @@ use Rattle.std.proofs.Common.{Bool, cond, false, length, refl, subst, true, ℕ,
 use Rattle.model_core.specs.{after_link, answered, can_close, can_link, changes, checked_of, checkpointer_program, checkpointer_took, cleaner_program, cleaner_took, closer_program, closer_took, flusher_program, flusher_took, has_passed, has_room, has_space, heard, mode, old_of, tail_of, to_next_page, took, user_program, user_took, UserState, with_mark, writer_program, writer_took}
 use Rattle.model_core.specs.{reader_program, reader_took}
 use Rattle.model_core.specs.Actors as model
-use Rattle.model_core.specs.Actors.{Actor, IsSameActor}
+use Rattle.model_core.specs.Actors.{Actor}
+use Rattle.model_core.specs.Program.{IsSameActor}
 use Rattle.model_core.specs.UserProgram.{with_close_room, with_link_room, without_close_room, without_link_room}
 use Rattle.model_core.specs.declared.ops.Answer.{Answer}
 use Rattle.model_core.specs.declared.steps.AdvanceStep.TheVariants as advance_step

@@ -88,9 +88,10 @@ pub use Rattle.model_core.specs.WriterProgram.{finds_no_more, full_blocks, has_l
 pub use Rattle.model_core.specs.Holding.{ChecksWithoutTail, HasHolder, advance_of, holds, holds_tail}
 pub use Rattle.model_core.specs.AnswerFits.{PageFitting}
 pub use Rattle.model_core.specs.AdvanceRow.{advance_fits, advance_holds, answer_limit}
-pub use Rattle.model_core.specs.UserRow.{user_fits, user_page_fits}
+pub use Rattle.model_core.specs.UserRow.{user_fits, user_page_fits, StartUser}
 pub use Rattle.model_core.specs.WriterRow.{writer_fits, writer_holds}
 pub use Rattle.model_core.specs.FlusherRow.{flusher_holds}
-pub use Rattle.model_core.specs.CheckpointerRow.{checkpointer_holds}
-pub use Rattle.model_core.specs.ReaderRow.{reader_holds}
-pub use Rattle.model_core.specs.CloserRow.{closer_fits}
+pub use Rattle.model_core.specs.CheckpointerRow.{checkpointer_holds, checkpointer_start}
+pub use Rattle.model_core.specs.ReaderRow.{reader_holds, reader_start}
+pub use Rattle.model_core.specs.CloserRow.{closer_fits, closer_start}
+pub use Rattle.model_core.specs.CleanerRow.{cleaner_start}

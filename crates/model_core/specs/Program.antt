@@ -1,5 +1,5 @@
 -- The actors with their programs: what each has, and its next Op.
-use Rattle.std.specs.Prelude.{Bool, List, [], cond, ℕ, ◌+◌, ◌∷◌}
+use Rattle.std.specs.Prelude.{Bool, List, [], cond, ℕ, ◌+◌, ◌∷◌, ◌≡◌}
 use Rattle.model_core.specs.ActorProgram.{ActorProgram, checked_of}
 use Rattle.model_core.specs.Actors.{Actor, Batch, Blocks, Lent, Nothing, Room}
 use Rattle.model_core.specs.Answers.{old_of}
@@ -9,7 +9,7 @@ use Rattle.model_core.specs.CloserProgram.{closer_program}
 use Rattle.model_core.specs.FlusherProgram.{flusher_program}
 use Rattle.model_core.specs.Groups.{Entry}
 use Rattle.model_core.specs.ReaderProgram.{Filling, reader_filled, reader_fills, reader_program}
-use Rattle.model_core.specs.States.{Line}
+use Rattle.model_core.specs.States.{Line, UserState}
 use Rattle.model_core.specs.UserProgram.{line_at, user_program}
 use Rattle.model_core.specs.WriterProgram.{writer_program}
 use Rattle.model_core.specs.declared.ops.Answer.{Answer}
@@ -19,7 +19,7 @@ use Rattle.model_core.specs.declared.ops.Op.TheVariants as op
 use Rattle.model_core.specs.Actors as actor
 
 -- what is asked of an actor's case, its program and its state: the one place that names the program of each case
-abbrev pub by_program : {R : Type 0} → ((S : Type 0) → (S → Actor) → ActorProgram S → S → R) → Actor → R
+abbrev pub by_program {ℓ} : {R : Type ℓ} → ((S : Type 0) → (S → Actor) → ActorProgram S → S → R) → Actor → R
 by_program f (actor.User u) = f _ actor.User user_program u
 by_program f (actor.Writer s) = f _ actor.Writer writer_program s
 by_program f (actor.Flusher t) = f _ actor.Flusher flusher_program t
@@ -27,6 +27,11 @@ by_program f (actor.Closer t) = f _ actor.Closer closer_program t
 by_program f (actor.Cleaner v) = f _ actor.Cleaner cleaner_program v
 by_program f (actor.Checkpointer t) = f _ actor.Checkpointer checkpointer_program t
 by_program f (actor.Reader r) = f _ actor.Reader reader_program r
+
+-- the same actor, later: a user keeps its number and its lines, and any other its kind
+abbrev pub IsSameActor : Actor → Actor → Type 0
+IsSameActor (actor.User u) b = (v : UserState) × (b ≡ actor.User v) × (v.user ≡ u.user) × (v.lines ≡ u.lines)
+IsSameActor a b = by_program (λ S case p s. (t : S) × (b ≡ case t)) a
 
 -- its next Op is a load of FAILED
 abbrev pub is_checking : Actor → Bool

@@ -12,7 +12,7 @@ use Rattle.model_core.proofs.Lists.{at_set, set_at, set_else}
 use Rattle.model_core.specs.{Actor, change_at, CheckpointerState, CleanerState, CloserState, Core, filled, Filling, flat, layout_of, FlusherState, has_log_space, Line, line_at, Listed, lsn, next, ReaderState, shared_answer, SharedWords, took, UserState, WriterState}
 use Rattle.model_core.specs.Hands.{hand, IsFreeToCheck}
 use Rattle.model_core.specs.UserRow.{user_hand, user_holds_tail}
-use Rattle.model_core.specs.Actors.{IsSameActor}
+use Rattle.model_core.specs.Program.{IsSameActor}
 use Rattle.model_core.specs.ReaderProgram.{reader_filled}
 use Rattle.model_core.specs.DataSide.{DataSide}
 use Rattle.model_core.specs.LogSide.{LogSide}
@@ -25,7 +25,8 @@ use Rattle.model_logcore.proofs.NewUsers.{new_user_is}
 use Rattle.model_logcore.proofs.StartHolds.{start}
 use Rattle.model_logcore.specs.{StartActor, sum_over_actors}
 use Rattle.model_logcore.specs.LogHalf.{left_to_reserve}
-use Rattle.model_logcore.specs.Start.{closer_start, writer_start}
+use Rattle.model_core.specs.CloserRow.{closer_start}
+use Rattle.model_core.specs.WriterRow.{writer_start}
 use Rattle.model_logcore.specs.LogLaws.{LogLaws}
 use Rattle.model_pagecore.specs.DataLaws.{DataLaws}
 use Rattle.model_running.proofs.StartRunning.{both_start, start_pages}

@@ -8,7 +8,7 @@ use Rattle.model_core.proofs.Later.{took_later}
 use Rattle.model_core.proofs.Lists.{at_set, set_at, set_else}
 use Rattle.model_core.specs.{Actor, changes, flusher_op, FlusherState, heard, lent, Line, line_at, Listed, LogServed, next, old_of, shared_answer, shared_left, SharedWords, took, user_op, UserState, writer_op, WriterState}
 use Rattle.model_core.specs.Groups.{PageChange}
-use Rattle.model_core.specs.Actors.{IsSameActor}
+use Rattle.model_core.specs.Program.{IsSameActor}
 use Rattle.model_core.specs.DataSide.{DataSide}
 use Rattle.model_core.specs.LogSide.{LogSide}
 use Rattle.model_core.specs.Setup.{Setup}

@@ -20,7 +20,8 @@ use Rattle.model_core.specs.declared.steps.WriterStep.{WriterStep}
 use Rattle.model_base.specs.declared.limits.TheConstants.{MAX_GROUP}
 use Rattle.model_logcore.proofs.UserGroups.{count_front, count_some, rank_same}
 use Rattle.model_logcore.specs.{AdvanceAt, count_of, FlusherAt, FlusherFits, LogGhost, UserAt, UserFits, WriterAt, WriterFits}
-use Rattle.model_logcore.specs.LogFits.{Hand, HasLinked, HoldsWtail}
+use Rattle.model_logcore.specs.UserLog.{Hand, HasLinked}
+use Rattle.model_logcore.specs.AdvanceLog.{HoldsWtail}
 use Rattle.model_logcore.specs.LogHalf.{LogHalf}
 use Rattle.model_ends.proofs.Further.{FlusherTold, Further, UserTold, WriterTold}
 use Rattle.model_ends.proofs.Helpers.{Found, group_at, own_user, seat_from, takes_low, tries_few, up_can}

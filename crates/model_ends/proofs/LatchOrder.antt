@@ -16,7 +16,7 @@ use Rattle.model_core.specs.declared.steps.UserStep.{UserStep}
 use Rattle.model_logcore.specs.{LogGhost}
 use Rattle.model_pagecore.specs.{CleanerHasLatch, HasLatch, IsInBatch, PageGhost, UserPageFits}
 use Rattle.model_pagecore.specs.Latches.{UserHasLatch}
-use Rattle.model_pagecore.specs.PageHalf.{UserPagesAt}
+use Rattle.model_pagecore.specs.UserPages.{UserPagesAt}
 use Rattle.model_running.specs.RunningStore.{BothHalves}
 use Rattle.model_base.specs.declared.limits.TheConstants.{LSN_LIMIT, MIN_LOG_BLOCKS}
 use Rattle.model_core.specs.{Core, flat, layout_of, lsn}

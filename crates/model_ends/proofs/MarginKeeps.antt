@@ -8,7 +8,7 @@ use Rattle.model_core.proofs.Later.{took_later}
 use Rattle.model_core.proofs.Lists.{at_set}
 use Rattle.model_core.proofs.Lsns.{lsn_le}
 use Rattle.model_core.specs.{Actor, ceiling, changes, checkpointer_op, CheckpointerState, cleaner_op, closer_op, flusher_op, group_bytes, has_log_space, has_space, heard, Line, line_at, Listed, lsn, next, reader_op, shared_answer, shared_left, SharedWords, took, user_op, user_took, UserState, writer_op, WriterState}
-use Rattle.model_core.specs.Actors.{IsSameActor}
+use Rattle.model_core.specs.Program.{IsSameActor}
 use Rattle.model_core.specs.LogSide.{LogSide}
 use Rattle.model_core.specs.Setup.{Setup}
 use Rattle.model_core.specs.declared.limits.TheConstants.{FREE_MARGIN}

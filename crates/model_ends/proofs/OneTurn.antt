@@ -7,7 +7,7 @@ use native.Mathlib.Decide.{dec_le}
 use Rattle.model_core.proofs.Later.{took_later}
 use Rattle.model_core.proofs.Lsns.{lsn_le}
 use Rattle.model_core.specs.{Actor, Listed, lsn, next, shared_answer, shared_left, SharedWords, took, UserState}
-use Rattle.model_core.specs.Actors.{IsSameActor}
+use Rattle.model_core.specs.Program.{IsSameActor}
 use Rattle.model_core.specs.DataSide.{DataSide}
 use Rattle.model_core.specs.LogSide.{LogSide}
 use Rattle.model_core.specs.Setup.{Setup}

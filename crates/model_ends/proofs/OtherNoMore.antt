@@ -17,7 +17,7 @@ use Rattle.model_core.specs.declared.steps.ReaderStep.{ReaderStep}
 use Rattle.model_core.specs.declared.steps.WriterStep.{WriterStep}
 use Rattle.model_logcore.specs.{CheckpointerAt, CheckpointerFits, LogGhost, WriterAt, WriterFits}
 use Rattle.model_pagecore.specs.{CloserFits, PageGhost}
-use Rattle.model_pagecore.specs.PageHalf.{CloserAt}
+use Rattle.model_pagecore.specs.CloserPages.{CloserAt}
 use Rattle.model_running.specs.RunningStore.{BothHalves}
 use Rattle.model_ends.proofs.Margin.{is_user}
 use Rattle.model_ends.proofs.PageCost.{listed_by, marked_clear, marked_same, removed_fewer, words_steps}

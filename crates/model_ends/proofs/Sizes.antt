@@ -8,7 +8,7 @@ use mathlib.Core.Option.{some}
 use Rattle.model_base.specs.declared.limits.TheConstants.{BLOCK_SIZE}
 use Rattle.model_core.proofs.Lsns.{lsn_le}
 use Rattle.model_core.specs.{Actor, ceiling, entries, entries_from, Entry, has_log_space, Line, line_at, lsn, SharedWords, sum_of, Tiles, WriterState}
-use Rattle.model_core.specs.Actors.{IsSameActor}
+use Rattle.model_core.specs.Program.{IsSameActor}
 use Rattle.model_core.specs.LogSide.{LogSide}
 use Rattle.model_core.specs.Setup.{Setup}
 use Rattle.model_core.specs.StartWords.{start_checkpoint}

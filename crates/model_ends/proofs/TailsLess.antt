@@ -13,7 +13,7 @@ use Rattle.model_logcore.specs.{AdvanceAt, LogGhost}
 use Rattle.model_logcore.specs.LogHalf.{LogHalf}
 use Rattle.model_pagecore.specs.{PageGhost}
 use Rattle.model_pagecore.specs.PageFacts.{ClosedLinks}
-use Rattle.model_pagecore.specs.PageHalf.{ClosingAt}
+use Rattle.model_pagecore.specs.ClosingPages.{ClosingAt}
 use Rattle.model_core.specs.Actors.{Actor}
 use Rattle.model_ends.proofs.Links.{links_less}
 use Rattle.model_ends.proofs.PageCost.{words_steps}

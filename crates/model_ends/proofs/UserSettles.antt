@@ -16,7 +16,7 @@ use Rattle.model_core.specs.declared.steps.UserStep.{UserStep}
 use Rattle.model_log.specs.declared.layout.TheConstants.{BLOCK_DATA}
 use Rattle.model_logcore.specs.{LogGhost, UserAt, UserFits}
 use Rattle.model_pagecore.specs.{PageGhost, UserPageFits}
-use Rattle.model_pagecore.specs.PageHalf.{UserClosingAt, UserPagesAt}
+use Rattle.model_pagecore.specs.UserPages.{UserClosingAt, UserPagesAt}
 use Rattle.model_running.specs.RunningStore.{BothHalves}
 use Rattle.model_ends.proofs.Links.{links_more}
 use Rattle.model_ends.proofs.PageCost.{appended_more, listed_by, marked, marked_more, marked_same, user_steps, words_steps}

@@ -16,7 +16,7 @@ use Rattle.model_core.specs.declared.limits.TheConstants.{ADVANCE_PLACES, FREE_M
 use Rattle.model_log.specs.declared.layout.TheConstants.{BLOCK_DATA}
 use Rattle.model_logcore.proofs.AdvanceSteps.{is_free, tails}
 use Rattle.model_logcore.specs.{LogGhost, UserAt}
-use Rattle.model_logcore.specs.LogFits.{AdvanceAt}
+use Rattle.model_logcore.specs.AdvanceLog.{AdvanceAt}
 use Rattle.model_logcore.specs.LogHalf.{LogHalf}
 use Rattle.model_ends.proofs.Cost.{cost, lines_steps, rest, user_cost}
 use Rattle.model_ends.proofs.Links.{links_less, links_more}

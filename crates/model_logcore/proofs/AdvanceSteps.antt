@@ -14,7 +14,7 @@ use Rattle.model_logcore.proofs.Frame.{Later, unchanged}
 use Rattle.model_logcore.proofs.GroupEnds.{end_near}
 use Rattle.model_logcore.proofs.Same.{later_marks, numbers_sized, part_same, stored_else, stored_here, wlinks_sized}
 use Rattle.model_logcore.specs.LogFacts.{LogFacts, LogGhost, WrittenLink}
-use Rattle.model_logcore.specs.LogFits.{HoldsWtail}
+use Rattle.model_logcore.specs.AdvanceLog.{HoldsWtail}
 use Rattle.model_logcore.specs.LogHalf.{LogHalf}
 
 -- what a step of an advance leaves of the words and the log, and to the actors at other seats

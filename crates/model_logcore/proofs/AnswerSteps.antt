@@ -10,7 +10,8 @@ use Rattle.model_core.specs.LogSide.{LogSide}
 use Rattle.model_core.specs.Setup.{Setup}
 use Rattle.model_logcore.proofs.UserGroups.{rank_same}
 use Rattle.model_logcore.specs.LogFacts.{LogGhost, LogFacts, count_of}
-use Rattle.model_logcore.specs.LogFits.{AreBelow, UserAt, UserFits}
+use Rattle.model_core.specs.UserRow.{AreBelow}
+use Rattle.model_logcore.specs.UserLog.{UserAt, UserFits}
 use Rattle.model_logcore.specs.LogHalf.{LogHalf}
 use Rattle.model_logcore.specs.LogLaws.{LogLaws}
 use Rattle.model_core.specs.declared.steps.UserStep.TheVariants as user_step

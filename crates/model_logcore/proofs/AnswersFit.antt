@@ -27,7 +27,9 @@ use Rattle.model_logcore.proofs.WriterCells.{block_is, first_true}
 use Rattle.model_logcore.proofs.AdvanceSteps.{link_here}
 use Rattle.model_logcore.proofs.WriterSteps.{tail_near}
 use Rattle.model_logcore.specs.LogFacts.{LogGhost, sum_over_actors}
-use Rattle.model_logcore.specs.LogFits.{AdvanceAt, UserAt, UserFits, WriterAt, WriterFits}
+use Rattle.model_logcore.specs.AdvanceLog.{AdvanceAt}
+use Rattle.model_logcore.specs.UserLog.{UserAt, UserFits}
+use Rattle.model_logcore.specs.WriterLog.{WriterAt, WriterFits}
 use Rattle.model_logcore.specs.LogHalf.{LogHalf, left_to_reserve, lengths}
 use Rattle.model_core.specs.declared.words.Word.TheVariants as word
 use Rattle.model_core.specs.declared.ops.Op.TheVariants as op

@@ -13,7 +13,8 @@ use Rattle.model_logcore.proofs.Same.{facts_same, later_marks, numbers_sized, pa
 use Rattle.model_logcore.proofs.WriterCells.{lends}
 use Rattle.model_logcore.proofs.WriterSteps.{tail_near, wsteps}
 use Rattle.model_logcore.specs.LogFacts.{LogGhost, LogFacts, LogPartFacts, sum_over_actors}
-use Rattle.model_logcore.specs.LogFits.{LogFits, WriterAt, WriterFits}
+use Rattle.model_logcore.specs.LogFits.{LogFits}
+use Rattle.model_logcore.specs.WriterLog.{WriterAt, WriterFits}
 use Rattle.model_logcore.specs.LogHalf.{LogHalf, left_to_reserve}
 use Rattle.model_logcore.specs.LogLaws.{AfterWrite, CanWrite, LogLaws}
 use mathlib.Core.Option as maybe

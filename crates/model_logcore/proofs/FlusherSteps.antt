@@ -9,7 +9,7 @@ use Rattle.model_logcore.proofs.DeviceSteps.{stays}
 use Rattle.model_logcore.proofs.Frame.{unchanged, Kept, Later, Still, others_flusher, moved_on}
 use Rattle.model_logcore.proofs.Same.{facts_same, later_marks, numbers_sized, part_kept, part_same, still_same}
 use Rattle.model_logcore.specs.LogFacts.{LogGhost, LogFacts, LogPartFacts}
-use Rattle.model_logcore.specs.LogFits.{FlusherAt, FlusherFits}
+use Rattle.model_logcore.specs.FlusherLog.{FlusherAt, FlusherFits}
 use Rattle.model_logcore.specs.LogHalf.{LogHalf}
 use Rattle.model_logcore.specs.LogLaws.{AfterSync, LogLaws}
 use mathlib.Core.Option as maybe

@@ -3,7 +3,14 @@ use Rattle.model_core.specs.declared.steps.ReaderStep.{ReaderStep}
 use Rattle.model_core.specs.declared.steps.ReaderStep.TheVariants as reader_step
 use Rattle.model_core.specs.States.{ReaderState}
 use Rattle.model_core.specs.ReaderRow.{reader_holds}
-use Rattle.model_logcore.specs.LogFits.{ReaderAt, ReaderFits}
+use Rattle.model_logcore.specs.AdvanceLog.{AdvanceAt, HoldsWtail}
+use Rattle.model_logcore.specs.CheckpointerLog.{CheckpointerAt, CheckpointerFits}
+use Rattle.model_logcore.specs.CleanerLog.{CleanerTold}
+use Rattle.model_logcore.specs.FlusherLog.{FlusherAt, FlusherFits}
+use Rattle.model_logcore.specs.UserLog.{Hand, HasAllCopied, HasLinked, HasStoppedAt, LacksFirst, UserAt, UserFits}
+use Rattle.model_logcore.specs.LogFits.{LogFits}
+use Rattle.model_logcore.specs.ReaderLog.{ReaderAt, ReaderFits}
+use Rattle.model_logcore.specs.WriterLog.{WriterAt, WriterFits}
 use Rattle.std.proofs.Common.{Bool, List, [], ap, arith, length, refl, set, subst, suc, sym, true, zero, ℕ, ⊎_elim, ◌%◌, ◌*◌, ◌+◌, ◌/◌, ◌<◌, ◌∙◌, ◌∷◌, ◌≡◌, ◌≢◌, ◌≤◌, inl, inr}
 use Rattle.std.specs.Prelude.{slice_index}
 use lib.ListN.{get_elem?}
@@ -24,7 +31,7 @@ use Rattle.model_core.specs.declared.steps.WriterStep.{WriterStep}
 use Rattle.model_core.specs.declared.steps.FlusherStep.{FlusherStep}
 use Rattle.model_core.specs.declared.limits.TheConstants.{WRITTEN_LINKS}
 use Rattle.model_logcore.specs.LogFacts.{LogGhost, LogFacts, Place, count_of, sum_over_actors}
-use Rattle.model_logcore.specs.LogFits.{AdvanceAt, AreBelow, CheckpointerAt, CheckpointerFits, CleanerTold, LogFits, FlusherAt, FlusherFits, Hand, LacksFirst, HasAllCopied, HasLinked, HasStoppedAt, HoldsWtail, UserAt, UserFits, WriterAt, WriterFits}
+use Rattle.model_core.specs.UserRow.{AreBelow}
 use Rattle.model_logcore.specs.LogHalf.{Counted, LogHalf, HasTaker, left_to_reserve}
 use Rattle.model_core.specs.declared.steps.AdvanceStep.TheVariants as advance_step
 use Rattle.model_core.specs.declared.steps.UserStep.TheVariants as user_step

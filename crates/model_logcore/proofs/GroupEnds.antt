@@ -10,7 +10,7 @@ use Rattle.model_core.specs.Setup.{Setup}
 use Rattle.model_core.specs.declared.limits.TheConstants.{LOG_BUFFER}
 use Rattle.model_log.specs.declared.layout.TheConstants.{BLOCK_DATA}
 use Rattle.model_logcore.specs.LogFacts.{FirstOffsets, LogFacts, LogGhost}
-use Rattle.model_logcore.specs.LogFits.{EndIsNear, Hand, HasStoredFirst}
+use Rattle.model_logcore.specs.UserLog.{EndIsNear, Hand, HasStoredFirst}
 
 -- a group's end is near if one of its bytes is, and FIRST of the block that it ends in is stored, if it starts in another
 pub end_near : (base : ℕ) (slots : List ℕ) (write w : ℕ) (log : List Entry) (first state : ℕ → ℕ) (entered start x end : ℕ) → write ≡ lsn w → FirstOffsets base slots write log first state entered

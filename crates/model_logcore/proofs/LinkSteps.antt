@@ -19,7 +19,7 @@ use Rattle.model_logcore.proofs.Frame.{StillHeld, Kept, Later}
 use Rattle.model_logcore.proofs.RingSteps.{above_tail, commits_states, hand_lies, refit, steps, still_words}
 use Rattle.model_logcore.proofs.Same.{wlinks_sized, stored_here, stored_else}
 use Rattle.model_logcore.specs.LogFacts.{LogGhost, LogFacts, WrittenLink, Place, count_of}
-use Rattle.model_logcore.specs.LogFits.{UserAt, UserFits}
+use Rattle.model_logcore.specs.UserLog.{UserAt, UserFits}
 use Rattle.model_logcore.specs.LogHalf.{LogHalf, left_to_reserve}
 use Rattle.model_logcore.specs.LogLaws.{LogLaws}
 use Rattle.model_core.specs.declared.steps.UserStep.TheVariants as user_step

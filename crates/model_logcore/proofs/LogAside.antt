@@ -8,7 +8,8 @@ use Rattle.model_core.specs.Setup.{Setup}
 use Rattle.model_logcore.proofs.Frame.{unchanged, Kept, others_later, others_pointer, moved_on}
 use Rattle.model_logcore.proofs.Same.{facts_same, later_marks, part_kept, part_same, still_same}
 use Rattle.model_logcore.specs.LogFacts.{LogGhost}
-use Rattle.model_logcore.specs.LogFits.{LogFits, CheckpointerFits}
+use Rattle.model_logcore.specs.LogFits.{LogFits}
+use Rattle.model_logcore.specs.CheckpointerLog.{CheckpointerFits}
 use Rattle.model_logcore.specs.LogHalf.{LogHalf, left_to_reserve}
 use Rattle.model_logcore.specs.LogLaws.{AfterCheckpoint}
 use mathlib.Core.Option as maybe

@@ -31,7 +31,7 @@ use Rattle.model_core.specs.ReaderRow.{reader_holds}
 use Rattle.model_core.specs.Actors.{Room}
 use Rattle.model_core.specs.declared.steps.ReaderStep.{ReaderStep}
 use Rattle.model_core.specs.declared.steps.ReaderStep.TheVariants as reader_step
-use Rattle.model_logcore.specs.LogFits.{ReaderAt, ReaderFits}
+use Rattle.model_logcore.specs.ReaderLog.{ReaderAt, ReaderFits}
 use Rattle.model_logcore.proofs.Same.{clinks_sized, lists_sized, numbers_sized, page_sized}
 use Rattle.model_logcore.proofs.UserSteps.{user_give, user_keeps, user_list, user_checked}
 use Rattle.model_logcore.proofs.WriterAdvances.{keeps_clear_link, keeps_free_tail, keeps_load_link, keeps_load_tail, keeps_take_tail}
@@ -40,7 +40,11 @@ use Rattle.model_logcore.proofs.WriterSteps.{staged}
 use Rattle.model_logcore.proofs.WriterStores.{keeps_store_failed, keeps_store_write}
 use Rattle.model_logcore.proofs.Frame.{Kept}
 use Rattle.model_logcore.specs.LogFacts.{LogGhost}
-use Rattle.model_logcore.specs.LogFits.{CleanerTold, CheckpointerAt, CheckpointerFits, WriterAt, WriterFits, FlusherAt, FlusherFits, UserAt}
+use Rattle.model_logcore.specs.CleanerLog.{CleanerTold}
+use Rattle.model_logcore.specs.CheckpointerLog.{CheckpointerAt, CheckpointerFits}
+use Rattle.model_logcore.specs.WriterLog.{WriterAt, WriterFits}
+use Rattle.model_logcore.specs.FlusherLog.{FlusherAt, FlusherFits}
+use Rattle.model_logcore.specs.UserLog.{UserAt}
 use Rattle.model_logcore.specs.LogHalf.{LogHalf}
 use Rattle.model_logcore.specs.LogLaws.{CanCheckpoint, LogLaws}
 use mathlib.Core.Option as maybe

@@ -5,7 +5,7 @@ use Rattle.model_base.specs.declared.limits.TheConstants.{MAX_GROUP}
 use Rattle.model_core.specs.Setup.{Setup}
 use Rattle.model_core.specs.{Line, line_at, LoadedMarks, none_loaded, UserState}
 use Rattle.model_core.specs.declared.steps.UserStep.{UserStep}
-use Rattle.model_logcore.specs.Start.{StartUser}
+use Rattle.model_core.specs.UserRow.{StartUser}
 use Rattle.model_core.specs.declared.steps.UserStep.TheVariants as user_step
 
 pub record IsNewUser (c : Setup) (u : UserState) : Type 0 where

@@ -10,7 +10,7 @@ use Rattle.model_logcore.proofs.DeviceSteps.{stays}
 use Rattle.model_logcore.proofs.Frame.{unchanged, Kept, others_later, moved_on}
 use Rattle.model_logcore.proofs.Same.{facts_same, later_marks, numbers_sized, part_kept, places_sized, still_same}
 use Rattle.model_logcore.specs.LogFacts.{LogGhost}
-use Rattle.model_logcore.specs.LogFits.{ReaderAt, ReaderFits}
+use Rattle.model_logcore.specs.ReaderLog.{ReaderAt, ReaderFits}
 use Rattle.model_logcore.specs.LogHalf.{LogHalf}
 use Rattle.model_logcore.specs.LogLaws.{AfterRead}
 use mathlib.Core.Option as maybe

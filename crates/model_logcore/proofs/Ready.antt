@@ -17,8 +17,9 @@ use Rattle.model_core.specs.declared.steps.UserStep.{UserStep}
 use Rattle.model_core.specs.declared.steps.WriterStep.{WriterStep}
 use Rattle.model_logcore.proofs.DeviceSteps.{can_write}
 use Rattle.model_logcore.specs.LogFacts.{LogGhost}
-use Rattle.model_logcore.specs.LogFits.{FlusherAt, FlusherFits, WriterAt, WriterFits}
-use Rattle.model_logcore.specs.LogFits.{ReaderAt, ReaderFits}
+use Rattle.model_logcore.specs.FlusherLog.{FlusherAt, FlusherFits}
+use Rattle.model_logcore.specs.WriterLog.{WriterAt, WriterFits}
+use Rattle.model_logcore.specs.ReaderLog.{ReaderAt, ReaderFits}
 use Rattle.model_logcore.specs.LogHalf.{LogHalf}
 use Rattle.model_logcore.specs.LogLaws.{CanCheckpoint, LogLaws}
 use Rattle.model_logcore.specs.Ready.{Ready}

@@ -19,7 +19,7 @@ use Rattle.model_logcore.proofs.UserGroups.{count_snoc, entries_snoc, lengths_st
 use Rattle.model_logcore.proofs.Frame.{unchanged, Kept, moved, others_later, taken_same, total_set}
 use Rattle.model_logcore.proofs.Same.{numbers_sized}
 use Rattle.model_logcore.specs.LogFacts.{LogGhost, Place, count_of, sum_over_actors}
-use Rattle.model_logcore.specs.LogFits.{UserAt, UserFits}
+use Rattle.model_logcore.specs.UserLog.{UserAt, UserFits}
 use Rattle.model_logcore.specs.LogHalf.{LogHalf, left_to_reserve, lengths}
 use Rattle.model_logcore.specs.LogLaws.{LogLaws}
 use Rattle.model_core.specs.declared.steps.UserStep.TheVariants as user_step

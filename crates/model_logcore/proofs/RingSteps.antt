@@ -20,7 +20,8 @@ use Rattle.model_logcore.proofs.UserGroups.{crossing_same, first_is}
 use Rattle.model_logcore.proofs.Frame.{unchanged, Kept, Later, Still, others_later, moved_on}
 use Rattle.model_logcore.proofs.Same.{cells_sized, firsts_sized, stored_here, stored_else}
 use Rattle.model_logcore.specs.LogFacts.{WrittenLinks, HasZeroLane, LogGhost, LogFacts, FirstOffsets, InHand, RingCells, count_of, Commits}
-use Rattle.model_logcore.specs.LogFits.{AreBelow, Hand, UserAt, UserFits}
+use Rattle.model_core.specs.UserRow.{AreBelow}
+use Rattle.model_logcore.specs.UserLog.{Hand, UserAt, UserFits}
 use Rattle.model_logcore.specs.LogHalf.{LogHalf, left_to_reserve}
 use Rattle.model_core.specs.declared.steps.UserStep.TheVariants as user_step
 use Rattle.model_core.specs.Actors as actor

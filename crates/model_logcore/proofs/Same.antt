@@ -10,7 +10,7 @@ use Rattle.model_log.specs.declared.layout.TheConstants.{BLOCK_DATA}
 use Rattle.model_core.specs.declared.steps.WriterStep.{WriterStep}
 use Rattle.model_logcore.proofs.Frame.{Later, Still, StillHeld}
 use Rattle.model_logcore.specs.LogFacts.{LogFacts, LogGhost, LogPartFacts, MarkOrder}
-use Rattle.model_logcore.specs.LogFits.{WriterAt, WriterFits}
+use Rattle.model_logcore.specs.WriterLog.{WriterAt, WriterFits}
 
 -- a number of a list is stored, and the others stay
 pub stored_here : (l : List ℕ) (i v j : ℕ) → j ≡ i → i < length l → slice_index (slice_set l i v) j ≡ v

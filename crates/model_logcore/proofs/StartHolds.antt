@@ -1,6 +1,11 @@
 -- The log half holds at the start of a run, with a user that gets a seat later, and where one seat takes in another's groups.
 use Rattle.model_core.specs.States.{ReaderState}
-use Rattle.model_logcore.specs.LogFits.{ReaderAt}
+use Rattle.model_logcore.specs.CheckpointerLog.{CheckpointerFits}
+use Rattle.model_logcore.specs.FlusherLog.{FlusherFits}
+use Rattle.model_logcore.specs.LogFits.{LogFits}
+use Rattle.model_logcore.specs.ReaderLog.{ReaderAt}
+use Rattle.model_logcore.specs.UserLog.{UserAt}
+use Rattle.model_logcore.specs.WriterLog.{WriterFits}
 use Rattle.std.proofs.Common.{Bool, List, [], ap, arith, cond, eq-eqb, eqb, false, length, ne_eqb, refl, subst, suc, sym, true, ℕ, ◌+◌, ◌/◌, ◌<◌, ◌∙◌, ◌∷◌, ◌≡◌, ◌*◌}
 use lib.ListN.{get_elem?}
 use native.Mathlib.Decide.{ℕ_discrete}
@@ -16,7 +21,7 @@ use Rattle.model_core.specs.Setup.{Setup}
 use Rattle.model_logcore.proofs.NewUsers.{new_user_is}
 use Rattle.model_logcore.proofs.StartEmpty.{start_tail}
 use Rattle.model_logcore.specs.LogFacts.{LogFacts, LogGhost, sum_over_actors}
-use Rattle.model_logcore.specs.LogFits.{AreBelow, CheckpointerFits, FlusherFits, LogFits, UserAt, WriterFits}
+use Rattle.model_core.specs.UserRow.{AreBelow}
 use Rattle.model_logcore.specs.LogHalf.{LogHalf, left_to_reserve}
 use Rattle.model_logcore.specs.Start.{StartActor, StartPart}
 use Rattle.model_core.specs.StartWords.{StartWords}

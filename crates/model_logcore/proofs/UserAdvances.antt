@@ -16,7 +16,8 @@ use Rattle.model_logcore.proofs.Frame.{Kept}
 use Rattle.model_logcore.proofs.RingSteps.{refit_advance, steps}
 use Rattle.model_logcore.proofs.Same.{still_same}
 use Rattle.model_logcore.specs.LogFacts.{LogGhost}
-use Rattle.model_logcore.specs.LogFits.{AdvanceAt, HasAllCopied, HoldsWtail, UserAt, UserFits}
+use Rattle.model_logcore.specs.AdvanceLog.{AdvanceAt, HoldsWtail}
+use Rattle.model_logcore.specs.UserLog.{HasAllCopied, UserAt, UserFits}
 use Rattle.model_logcore.specs.LogHalf.{LogHalf}
 use Rattle.model_core.specs.declared.steps.AdvanceStep.TheVariants as advance_step
 use Rattle.model_core.specs.declared.steps.UserStep.TheVariants as user_step

@@ -21,7 +21,8 @@ use Rattle.model_logcore.proofs.ReserveSteps.{keeps_reserve}
 use Rattle.model_logcore.proofs.RingSteps.{keeps_add_cell, keeps_store_first, refit, refit_advance, shifted, steps, still_words}
 use Rattle.model_logcore.proofs.Same.{clinks_sized, facts_same, later_marks, lists_sized, numbers_sized, page_sized}
 use Rattle.model_logcore.specs.LogFacts.{LogGhost, LogFacts}
-use Rattle.model_logcore.specs.LogFits.{AreBelow, HasAllCopied, HasStoppedAt, UserAt, UserFits}
+use Rattle.model_core.specs.UserRow.{AreBelow}
+use Rattle.model_logcore.specs.UserLog.{HasAllCopied, HasStoppedAt, UserAt, UserFits}
 use Rattle.model_logcore.specs.LogHalf.{LogHalf, left_to_reserve}
 use Rattle.model_logcore.specs.LogLaws.{LogLaws}
 use Rattle.model_core.specs.declared.words.Word.TheVariants as word

@@ -1,6 +1,6 @@
 -- The log half of the invariant gives the watermarks.
 use Rattle.model_core.specs.declared.steps.ReaderStep.TheVariants as reader_step
-use Rattle.model_logcore.specs.LogFits.{ReaderAt, ReaderFits}
+use Rattle.model_logcore.specs.ReaderLog.{ReaderAt, ReaderFits}
 use Rattle.std.proofs.Common.{Bool, List, ap, arith, cond, eqb, eqb-true, false, inl, inr, length, refl, subst, sym, true, ℕ, ⊎_elim, ◌%◌, ◌+◌, ◌/◌, ◌<◌, ◌∙◌, ◌≡◌, ◌≢◌, ◌≤◌}
 use Rattle.std.proofs.lemmas.Bool.{eqb-false}
 use lib.ListN.{get_elem?}
@@ -24,7 +24,11 @@ use Rattle.model_core.specs.declared.limits.TheConstants.{LOG_BUFFER}
 use Rattle.model_logcore.proofs.GroupEnds.{end_near, hand_end_near}
 use Rattle.model_logcore.proofs.UserGroups.{first_is}
 use Rattle.model_logcore.specs.LogFacts.{LogGhost}
-use Rattle.model_logcore.specs.LogFits.{AdvanceAt, CheckpointerAt, CheckpointerFits, EndIsNear, FlusherAt, FlusherFits, Hand, HasLinked, HasStoredFirst, HoldsWtail, LacksFirst, UserAt, UserFits, WriterAt, WriterFits}
+use Rattle.model_logcore.specs.AdvanceLog.{AdvanceAt, HoldsWtail}
+use Rattle.model_logcore.specs.CheckpointerLog.{CheckpointerAt, CheckpointerFits}
+use Rattle.model_logcore.specs.UserLog.{EndIsNear, Hand, HasLinked, HasStoredFirst, LacksFirst, UserAt, UserFits}
+use Rattle.model_logcore.specs.FlusherLog.{FlusherAt, FlusherFits}
+use Rattle.model_logcore.specs.WriterLog.{WriterAt, WriterFits}
 use Rattle.model_logcore.specs.LogHalf.{LogHalf}
 use Rattle.model_logcore.specs.TailWord.{TailWordIs}
 use Rattle.model_logcore.specs.Watermarks.{first_in_hand, HandAgrees, HasCopied, HasLoadedBelow, HasMetFailure, IsGroupLinked, LogWatermarks, OwnMarkIs, UsersAgree}

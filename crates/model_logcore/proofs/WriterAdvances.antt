@@ -16,7 +16,8 @@ use Rattle.model_logcore.proofs.Frame.{unchanged, Kept}
 use Rattle.model_logcore.proofs.Same.{later_marks, order_on, writer_same}
 use Rattle.model_logcore.proofs.WriterSteps.{own, wsteps}
 use Rattle.model_logcore.specs.LogFacts.{LogGhost}
-use Rattle.model_logcore.specs.LogFits.{AdvanceAt, HoldsWtail, IsIdle, WriterAt, WriterFits}
+use Rattle.model_logcore.specs.AdvanceLog.{AdvanceAt, HoldsWtail}
+use Rattle.model_logcore.specs.WriterLog.{IsIdle, WriterAt, WriterFits}
 use Rattle.model_logcore.specs.LogHalf.{LogHalf}
 use mathlib.Core.Option as maybe
 use Rattle.model_core.specs.declared.ops.Answer.TheVariants as answer

@@ -18,7 +18,7 @@ use Rattle.model_logcore.proofs.Same.{cells_sized, firsts_sized, later_marks, or
 use Rattle.model_logcore.proofs.WriterSteps.{WNow, own, ranks, wquiet, wsteps}
 use Rattle.model_logcore.proofs.Frame.{unchanged, Kept}
 use Rattle.model_logcore.specs.LogFacts.{LogGhost, RingCells}
-use Rattle.model_logcore.specs.LogFits.{WriterAt, WriterFits}
+use Rattle.model_logcore.specs.WriterLog.{WriterAt, WriterFits}
 use Rattle.model_logcore.specs.LogHalf.{LogHalf}
 use mathlib.Core.Option as maybe
 use Rattle.model_core.specs.declared.ops.Answer.TheVariants as answer

@@ -10,7 +10,7 @@ use Rattle.model_core.specs.declared.limits.TheConstants.{LOG_BUFFER}
 use Rattle.model_logcore.proofs.Frame.{unchanged, Kept, Later, others_writer, moved_on}
 use Rattle.model_logcore.proofs.Same.{later_marks, writer_same}
 use Rattle.model_logcore.specs.LogFacts.{LogGhost, LogFacts}
-use Rattle.model_logcore.specs.LogFits.{WriterAt, WriterFits}
+use Rattle.model_logcore.specs.WriterLog.{WriterAt, WriterFits}
 use Rattle.model_logcore.specs.LogHalf.{LogHalf}
 use mathlib.Core.Option as maybe
 use Rattle.model_core.specs.Actors as actor

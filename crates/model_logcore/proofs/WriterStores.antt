@@ -16,7 +16,7 @@ use Rattle.model_logcore.proofs.Same.{facts_same, later_marks, numbers_sized, pa
 use Rattle.model_logcore.proofs.WriterSteps.{own, ranks, tail_near, wsteps}
 use Rattle.model_logcore.proofs.Frame.{unchanged, Kept}
 use Rattle.model_logcore.specs.LogFacts.{LogGhost}
-use Rattle.model_logcore.specs.LogFits.{WriterAt, WriterFits}
+use Rattle.model_logcore.specs.WriterLog.{WriterAt, WriterFits}
 use Rattle.model_logcore.specs.LogHalf.{LogHalf}
 use mathlib.Core.Option as maybe
 use Rattle.model_core.specs.declared.ops.Answer.TheVariants as answer

@@ -6,22 +6,16 @@ use mathlib.Core.Option.{some}
 use Rattle.model_base.specs.declared.limits.TheConstants.{BLOCK_SIZE}
 use Rattle.model_core.specs.{Actor, ChecksWithoutTail, byte_at, byte_in, end_of, Entry, first_of, floor, group_bytes, group_end, IsBound, line_at, lsn, PageChange, read_place, SharedWords, Tiles, UserState, WriterState}
 use Rattle.model_core.specs.LogSide.{LogSide}
+use Rattle.model_core.specs.Rows.{row}
 use Rattle.model_core.specs.Setup.{Setup}
 use Rattle.model_core.specs.declared.limits.TheConstants.{BUFFER_BLOCKS, LOG_BUFFER, WORD_LANES, WRITTEN_LINKS}
 use Rattle.model_log.specs.declared.layout.TheConstants.{BLOCK_DATA, BLOCK_HEADER}
 use Rattle.model_logcore.specs.LogFacts.{HasZeroLane, WrittenLink, count_of}
-use Rattle.model_logcore.specs.LogFits.{AreBelow}
 use Rattle.model_logcore.specs.LogHalf.{Counted}
 use Rattle.model_logcore.specs.TailWord.{TailWordIs}
 use Rattle.model_core.specs.declared.steps.UserStep.{UserStep}
 use Rattle.model_core.specs.declared.steps.UserStep.TheVariants as user_step
 use Rattle.model_core.specs.declared.words.LinkBuffer.TheVariants as link_buffer
-use Rattle.model_core.specs.declared.steps.WriterStep.TheVariants as writer_step
-use Rattle.model_core.specs.declared.steps.FlusherStep.TheVariants as flusher_step
-use Rattle.model_core.specs.declared.steps.ReaderStep.TheVariants as reader_step
-use Rattle.model_core.specs.declared.steps.CloserStep.TheVariants as closer_step
-use Rattle.model_core.specs.declared.steps.CleanerStep.TheVariants as cleaner_step
-use Rattle.model_core.specs.declared.steps.CheckpointerStep.TheVariants as checkpointer_step
 use Rattle.model_core.specs.Actors as actor
 
 -- How far a place of the stream has come: its group is reserved, its byte is copied, its group is linked.
@@ -117,17 +111,11 @@ entered_place s = s.from + BLOCK_DATA * length s.firsts
 
 -- each mark of the log that an actor has loaded is at most the word now
 abbrev pub HasLoadedBelow : SharedWords → Actor → Type 0
-HasLoadedBelow m (actor.User u) = AreBelow u.loaded m.ckpt m.write m.wtail m.flushed
-HasLoadedBelow m (actor.Writer s) = (s.write ≤ m.write) × (s.ckpt ≤ m.ckpt)
-HasLoadedBelow m (actor.Flusher f) = (f.write ≤ m.write) × (f.last ≤ m.flushed)
-HasLoadedBelow m _ = Unit {0}
+HasLoadedBelow m a = (row a).loaded m
 
 -- what an actor keeps as the last mark that it has stored is the word: it compares with it and loads nothing
 abbrev pub OwnMarkIs : SharedWords → Actor → Type 0
-OwnMarkIs m (actor.Writer s) = s.write ≡ m.write
-OwnMarkIs m (actor.Flusher f) = f.last ≡ m.flushed
-OwnMarkIs m (actor.Checkpointer t) = t.own ≡ m.ckpt
-OwnMarkIs m _ = Unit {0}
+OwnMarkIs m a = (row a).own_mark m
 
 -- THE ORDER OF THE LOG'S MARKS. All but the read place stand between groups. `tail` is the place of the actor that holds
 -- WTAIL, else the tail itself; below it all is linked. `target` is the tail with which the writer goes on: it has entered each
@@ -175,13 +163,7 @@ pub record PartMarksAreOrdered (D : LogSide) (m : SharedWords) (p : D.Part) : Ty
 
 -- the actor has loaded a nonzero code, or stored one
 abbrev pub HasMetFailure : Actor → Type 0
-HasMetFailure (actor.User u) = u.step ≡ user_step.Failed
-HasMetFailure (actor.Writer s) = (s.step ≡ writer_step.GiveFailed) ⊎ (s.step ≡ writer_step.Failed)
-HasMetFailure (actor.Flusher f) = (f.step ≡ flusher_step.GiveFailed) ⊎ (f.step ≡ flusher_step.Failed)
-HasMetFailure (actor.Closer t) = t.step ≡ closer_step.Failed
-HasMetFailure (actor.Cleaner v) = v.step ≡ cleaner_step.Failed
-HasMetFailure (actor.Checkpointer t) = (t.step ≡ checkpointer_step.GiveFailed) ⊎ (t.step ≡ checkpointer_step.Failed)
-HasMetFailure (actor.Reader r) = (r.step ≡ reader_step.GiveFailed) ⊎ (r.step ≡ reader_step.Failed)
+HasMetFailure a = (row a).met_failure
 
 -- A FAILURE SHOWS: an actor has loaded or stored a nonzero code only where FAILED has one
 abbrev pub FailuresShow : ℕ → List Actor → Type 0

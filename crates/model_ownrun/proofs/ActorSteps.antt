@@ -18,7 +18,7 @@ use Rattle.model_core.specs.declared.ops.Op.TheVariants as op
 use Rattle.model_core.specs.declared.words.Word.TheVariants as word
 use Rattle.model_core.specs.Actors as actor
 use Rattle.model_logcore.specs.LogFacts.{LogGhost}
-use Rattle.model_logcore.specs.LogFits.{UserAt, UserFits}
+use Rattle.model_logcore.specs.UserLog.{UserAt, UserFits}
 use Rattle.model_logcore.specs.LogLaws.{LogLaws}
 use Rattle.model_own.specs.OwnTurn.{all_actors}
 use Rattle.model_own.specs.OwnWrites.{LogWork, OwnUser, has_failed}
@@ -31,7 +31,7 @@ use Rattle.model_ownrun.proofs.UserAlike.{again_same}
 use Rattle.model_own.specs.ErrandFits.{MayHelpAt}
 use Rattle.model_pagecore.specs.{PageGhost, UserHasLatch}
 use Rattle.model_pagecore.specs.DataLaws.{DataLaws}
-use Rattle.model_pagecore.specs.PageHalf.{UserPageFits, UserPagesAt}
+use Rattle.model_pagecore.specs.UserPages.{UserPageFits, UserPagesAt}
 use Rattle.model_running.proofs.Archiving.{IsNoReader, others_append_not, served_none}
 use Rattle.model_running.proofs.BothKeep.{keeps_both}
 use Rattle.model_running.proofs.ReadStays.{IsFilled}

@@ -30,7 +30,9 @@ use Rattle.model_core.specs.declared.steps.UserStep.TheVariants as user_step
 use Rattle.model_core.specs.declared.steps.WriterStep.TheVariants as writer_step
 use Rattle.model_core.specs.declared.words.LinkBuffer.TheVariants as link_buffer
 use Rattle.model_core.specs.Actors as actor
-use Rattle.model_logcore.specs.LogFits.{FlusherAt, FlusherFits, UserFits, WriterAt, WriterFits}
+use Rattle.model_logcore.specs.FlusherLog.{FlusherAt, FlusherFits}
+use Rattle.model_logcore.specs.UserLog.{UserFits}
+use Rattle.model_logcore.specs.WriterLog.{WriterAt, WriterFits}
 use Rattle.model_logcore.specs.LogHalf.{left_to_reserve}
 use Rattle.model_logcore.specs.LogLaws.{AfterSync, LogLaws}
 use Rattle.model_own.specs.OwnTurn.{all_actors}

@@ -27,14 +27,14 @@ use Rattle.model_core.specs.declared.steps.UserStep.TheVariants as user_step
 use Rattle.model_core.specs.declared.words.LinkBuffer.TheVariants as link_buffer
 use Rattle.model_core.specs.Actors as actor
 use Rattle.model_logcore.proofs.UserGroups.{lengths_step}
-use Rattle.model_logcore.specs.LogFits.{UserAt, UserFits}
+use Rattle.model_logcore.specs.UserLog.{UserAt, UserFits}
 use Rattle.model_logcore.specs.LogHalf.{left_to_reserve, lengths}
 use Rattle.model_own.specs.OwnTurn.{all_actors}
 use Rattle.model_own.specs.OwnWrites.{LogWork, OwnUser, helps_at, keeps_helped}
 use Rattle.model_ownrun.proofs.Linked.{Below, copied_below, far_enough, no_link, tail_free}
 use Rattle.model_ownrun.proofs.Moves.{answer_to, Runs}
 use Rattle.model_ownrun.specs.Alone.{Alone, HasHelped, OutAt, UserAlone}
-use Rattle.model_pagecore.specs.PageHalf.{UserPageFits, UserPagesAt}
+use Rattle.model_pagecore.specs.UserPages.{UserPageFits, UserPagesAt}
 
 module _ (D : LogSide) (E : DataSide) (c : Setup) (m : SharedWords) (ls : ℕ → List Listed) (p : D.Part)
     (d : E.Part) (o : OwnUser) (k : LogWork) (runs : Runs D E c m ls p d (all_actors (o ∷ []) k []))

@@ -18,7 +18,7 @@ use Rattle.model_core.specs.declared.steps.AdvanceStep.TheVariants as advance_st
 use Rattle.model_core.specs.declared.steps.FlusherStep.TheVariants as flusher_step
 use Rattle.model_core.specs.declared.steps.WriterStep.TheVariants as writer_step
 use Rattle.model_core.specs.Actors as actor
-use Rattle.model_logcore.specs.LogFits.{FlusherAt, FlusherFits}
+use Rattle.model_logcore.specs.FlusherLog.{FlusherAt, FlusherFits}
 use Rattle.model_logcore.specs.LogLaws.{AfterSync, LogLaws}
 use Rattle.model_own.specs.OwnTurn.{all_actors}
 use Rattle.model_own.specs.OwnWrites.{LogWork, OwnUser, after_flusher}

@@ -20,7 +20,8 @@ use Rattle.model_core.specs.Actors as actor
 use Rattle.model_logcore.proofs.AdvanceSteps.{link_here}
 use Rattle.model_logcore.proofs.UserGroups.{count_front, rank_same}
 use Rattle.model_logcore.specs.LogFacts.{LogGhost, count_of}
-use Rattle.model_logcore.specs.LogFits.{HasLinked, HoldsWtail, UserAt, UserFits}
+use Rattle.model_logcore.specs.UserLog.{HasLinked, UserAt, UserFits}
+use Rattle.model_logcore.specs.AdvanceLog.{HoldsWtail}
 use Rattle.model_logcore.specs.LogHalf.{LogHalf}
 use Rattle.model_ownrun.specs.Alone.{OutAt, top}
 

@@ -25,7 +25,8 @@ use Rattle.model_running.proofs.Archiving.{IsNoReader}
 use Rattle.model_running.proofs.PageTurn.{away}
 use Rattle.model_running.proofs.ReadKeeps.{others_read}
 use Rattle.model_running.specs.LatchesHeld.{LatchesAreHeld}
-use Rattle.model_running.specs.ReadHalf.{ArchiverAt, HaveRunBlocks, ReadFits, ReadHalf, StaysInRun}
+use Rattle.model_running.specs.ReaderPlaces.{ArchiverAt}
+use Rattle.model_running.specs.ReadHalf.{HaveRunBlocks, ReadFits, ReadHalf, StaysInRun}
 use Rattle.model_running.specs.RunningStore.{BothHalves}
 use Rattle.model_running.specs.UsersClosed.{UserClosed, UsersClosed}
 

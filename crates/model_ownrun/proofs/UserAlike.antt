@@ -13,12 +13,12 @@ use Rattle.model_core.specs.declared.steps.UserStep.TheVariants as user_step
 use Rattle.model_core.specs.declared.words.LinkBuffer.TheVariants as link_buffer
 use Rattle.model_core.specs.Actors as actor
 use Rattle.model_logcore.specs.LogFacts.{LogGhost}
-use Rattle.model_logcore.specs.LogFits.{UserAt, UserFits}
+use Rattle.model_logcore.specs.UserLog.{UserAt, UserFits}
 use Rattle.model_own.specs.OwnWrites.{begins_again, loads_again}
 use Rattle.model_ownrun.proofs.Restated.{IsAlike}
 use Rattle.model_own.specs.ErrandFits.{MayHelpAt}
 use Rattle.model_pagecore.specs.{PageGhost, UserHasLatch}
-use Rattle.model_pagecore.specs.PageHalf.{UserClosingAt, UserPageFits, UserPagesAt}
+use Rattle.model_pagecore.specs.UserPages.{UserClosingAt, UserPageFits, UserPagesAt}
 use Rattle.model_running.specs.RunningStore.{BothHalves}
 use Rattle.model_running.specs.UsersClosed.{HandIsClosed, UserClosed}
 

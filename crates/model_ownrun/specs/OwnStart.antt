@@ -7,7 +7,8 @@ use Rattle.model_core.specs.LogSide.{LogSide}
 use Rattle.model_core.specs.Setup.{Setup}
 use Rattle.model_logcore.specs.LogFacts.{sum_over_actors}
 use Rattle.model_logcore.specs.LogHalf.{left_to_reserve}
-use Rattle.model_logcore.specs.Start.{flusher_start, writer_start}
+use Rattle.model_core.specs.FlusherRow.{flusher_start}
+use Rattle.model_core.specs.WriterRow.{writer_start}
 use Rattle.model_own.specs.OwnTurn.{OwnCore, all_actors}
 use Rattle.model_ownrun.specs.OwnRuns.{AreAtHome}
 use Rattle.model_running.specs.StartStore.{StartStore}

@@ -16,7 +16,8 @@ use Rattle.model_core.specs.declared.steps.AdvanceStep.{AdvanceStep}
 use Rattle.model_pagecore.proofs.PageStep.{ring_step}
 use Rattle.model_pagecore.specs.Growing.{Grows}
 use Rattle.model_pagecore.specs.PageFacts.{ClosedLink, ClosedLinks, PageGhost}
-use Rattle.model_pagecore.specs.PageHalf.{ClosingAt, HasFound, HoldsCtail, PageFits, PageHalf}
+use Rattle.model_pagecore.specs.ClosingPages.{ClosingAt, HasFound, HoldsCtail}
+use Rattle.model_pagecore.specs.PageHalf.{PageFits, PageHalf}
 use Rattle.model_pagecore.specs.Pages.{Laid, start_lsn}
 use Rattle.model_core.specs.declared.steps.AdvanceStep.TheVariants as advance_step
 use Rattle.model_core.specs.declared.words.LinkBuffer.TheVariants as link_buffer

@@ -17,7 +17,9 @@ use Rattle.model_pagecore.specs.DataLaws.{CanBatch, kept_in, renewed}
 use Rattle.model_pagecore.proofs.Unfinished.{none_unfinished}
 use Rattle.model_pagecore.specs.Growing.{Grows}
 use Rattle.model_pagecore.specs.PageFacts.{AreUnfinished, PageGhost, listed_lsn}
-use Rattle.model_pagecore.specs.PageHalf.{At, CleanerAt, CleanerFits, InBatch, IsBatchKept, PageHalf, runs}
+use Rattle.model_pagecore.specs.HeldPages.{At}
+use Rattle.model_pagecore.specs.CleanerPages.{CleanerAt, CleanerFits, InBatch, IsBatchKept, runs}
+use Rattle.model_pagecore.specs.PageHalf.{PageHalf}
 use Rattle.model_pagecore.specs.Pages.{All, EndsAt, FrameStage, GroupInHand, Laid, Last, NewestStage, OnePage, ListingStage, Agree, none_in_hand, applied_upto}
 use Rattle.model_core.specs.declared.steps.CleanerStep.TheVariants as cleaner_step
 use Rattle.model_core.specs.Actors as actor

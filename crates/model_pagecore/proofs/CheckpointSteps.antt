@@ -15,7 +15,10 @@ use Rattle.model_pagecore.proofs.PageFrame.{page_moved, page_others, pages_same}
 use Rattle.model_pagecore.proofs.PageStep.{at_else, at_here, freed_sheet, latched_sheet, leaf_else, leaf_here, leaf_step, list_at, list_step, mate, page_quiet}
 use Rattle.model_pagecore.specs.Growing.{Grows}
 use Rattle.model_pagecore.specs.PageFacts.{PageGhost}
-use Rattle.model_pagecore.specs.PageHalf.{AreBatch, At, CanGive, CleanerAt, CleanerFits, InBatch, PageHalf, CheckpointerPagesAt, CheckpointerPageFits, Unlisting, rests, runs}
+use Rattle.model_pagecore.specs.CleanerPages.{AreBatch, CleanerAt, CleanerFits, InBatch, Unlisting, runs}
+use Rattle.model_pagecore.specs.HeldPages.{At}
+use Rattle.model_pagecore.specs.CheckpointerPages.{CanGive, CheckpointerPagesAt, CheckpointerPageFits, rests}
+use Rattle.model_pagecore.specs.PageHalf.{PageHalf}
 use Rattle.model_pagecore.specs.Pages.{All, InWordOnly, Laid, Last, Unlisted, ListingStage, Agree, end_lsn, none_in_hand, start_lsn, is_changed_page}
 use Rattle.model_core.specs.declared.ops.Answer.TheVariants as answer
 use Rattle.model_core.specs.declared.steps.CleanerStep.TheVariants as cleaner_step

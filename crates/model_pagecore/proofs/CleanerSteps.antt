@@ -13,7 +13,8 @@ use Rattle.model_core.specs.Setup.{Setup}
 use Rattle.model_pagecore.proofs.PageStep.{at_else, at_here, freed_sheet, latched_sheet, leaf_else, leaf_here, leaf_step, page_quiet}
 use Rattle.model_pagecore.specs.Growing.{Grows}
 use Rattle.model_pagecore.specs.PageFacts.{PageGhost, listed_lsn}
-use Rattle.model_pagecore.specs.PageHalf.{AreIn, CleanerAt, CleanerFits, InBatch, Looking, PageHalf, runs}
+use Rattle.model_pagecore.specs.CleanerPages.{AreIn, CleanerAt, CleanerFits, InBatch, Looking, runs}
+use Rattle.model_pagecore.specs.PageHalf.{PageHalf}
 use Rattle.model_pagecore.specs.Pages.{All, Laid, Last, PageIs, Agree, none_in_hand}
 use Rattle.model_core.specs.declared.ops.Answer.TheVariants as answer
 use Rattle.model_core.specs.declared.steps.CleanerStep.TheVariants as cleaner_step

@@ -9,7 +9,8 @@ use Rattle.model_core.specs.declared.steps.AdvanceStep.{AdvanceStep}
 use Rattle.model_pagecore.proofs.AdvanceSteps.{keeps_advance, tail_low}
 use Rattle.model_pagecore.specs.Growing.{Grows}
 use Rattle.model_pagecore.specs.PageFacts.{PageGhost}
-use Rattle.model_pagecore.specs.PageHalf.{CloserAt, CloserFits, PageHalf}
+use Rattle.model_pagecore.specs.CloserPages.{CloserAt, CloserFits}
+use Rattle.model_pagecore.specs.PageHalf.{PageHalf}
 use Rattle.model_pagecore.specs.Pages.{Laid}
 use Rattle.model_core.specs.declared.ops.Answer.TheVariants as answer
 use Rattle.model_core.specs.declared.steps.CloserStep.TheVariants as closer_step

@@ -11,7 +11,9 @@ use Rattle.model_core.specs.Setup.{Setup}
 use Rattle.model_pagecore.proofs.PageStep.{named, ring_step}
 use Rattle.model_pagecore.specs.Growing.{Grows}
 use Rattle.model_pagecore.specs.PageFacts.{PageGhost, ClosedLink, listed_lsn}
-use Rattle.model_pagecore.specs.PageHalf.{At, PageHalf, UserPagesAt, UserPageFits, group_in_hand}
+use Rattle.model_pagecore.specs.HeldPages.{At}
+use Rattle.model_pagecore.specs.PageHalf.{PageHalf}
+use Rattle.model_pagecore.specs.UserPages.{UserPagesAt, UserPageFits, group_in_hand}
 use Rattle.model_pagecore.specs.Pages.{All, Laid, Last, IsListed, start_lsn, is_changed_page}
 use Rattle.model_core.specs.declared.steps.UserStep.TheVariants as user_step
 use Rattle.model_core.specs.Actors as actor

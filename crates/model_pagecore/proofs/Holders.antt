@@ -7,7 +7,9 @@ use Rattle.model_core.specs.declared.steps.CleanerStep.{CleanerStep}
 use Rattle.model_core.specs.declared.steps.UserStep.{UserStep}
 use Rattle.model_pagecore.specs.Latches.{CleanerHasLatch, UserHasLatch}
 use Rattle.model_pagecore.specs.PageFacts.{PageGhost}
-use Rattle.model_pagecore.specs.PageHalf.{CleanerAt, HoldsOnly, UserPagesAt}
+use Rattle.model_pagecore.specs.CleanerPages.{CleanerAt}
+use Rattle.model_pagecore.specs.HeldPages.{HoldsOnly}
+use Rattle.model_pagecore.specs.UserPages.{UserPagesAt}
 use Rattle.model_core.specs.declared.steps.CleanerStep.TheVariants as cleaner_step
 use Rattle.model_core.specs.declared.steps.UserStep.TheVariants as user_step
 

@@ -13,7 +13,11 @@ use Rattle.model_pagecore.proofs.PageHistory.{each_joined, each_more, each_witho
 use Rattle.model_pagecore.proofs.PageStep.{list_at, list_mem, list_sheet, list_step, work_here}
 use Rattle.model_pagecore.specs.Growing.{Grows}
 use Rattle.model_pagecore.specs.PageFacts.{PageGhost, listed_lsn}
-use Rattle.model_pagecore.specs.PageHalf.{At, CleanerAt, CleanerFits, InBatch, PageHalf, CheckpointerPagesAt, CheckpointerPageFits, UserPagesAt, UserPageFits, rests, runs}
+use Rattle.model_pagecore.specs.HeldPages.{At}
+use Rattle.model_pagecore.specs.CleanerPages.{CleanerAt, CleanerFits, InBatch, runs}
+use Rattle.model_pagecore.specs.PageHalf.{PageHalf}
+use Rattle.model_pagecore.specs.CheckpointerPages.{CheckpointerPagesAt, CheckpointerPageFits, rests}
+use Rattle.model_pagecore.specs.UserPages.{UserPagesAt, UserPageFits}
 use Rattle.model_pagecore.specs.Pages.{InListOnly, All, InWordOnly, Laid, Last, Unlisted, OnePage, Agree, none_in_hand, last_end, start_lsn}
 use Rattle.model_core.specs.declared.steps.UserStep.TheVariants as user_step
 use Rattle.model_core.specs.declared.steps.CleanerStep.TheVariants as cleaner_step

@@ -18,7 +18,13 @@ use Rattle.model_core.specs.declared.steps.CheckpointerStep.{CheckpointerStep}
 use Rattle.model_pagecore.proofs.PageHistory.{last_snoc, puts_none, whole_snoc}
 use Rattle.model_pagecore.specs.Latches.{CleanerHasLatch, UserHasLatch}
 use Rattle.model_pagecore.specs.PageFacts.{PageGhost, PageFacts, listed_lsn}
-use Rattle.model_pagecore.specs.PageHalf.{AreBatch, AreLatched, IsBatchKept, At, CanGive, CleanerAt, CleanerFits, CleanerHolds, CloserAt, CloserFits, ClosingAt, HasList, HasPage, HoldsCtail, HoldsOnly, InBatch, HasPagesInHand, HasUntouchedPages, IsNear, Looking, PageFits, PageHalf, CheckpointerPagesAt, CheckpointerPageFits, ReadBelow, Unlisting, UserClosingAt, UserHolds, UserPagesAt, UserPageFits, PagesInHand, group_in_hand}
+use Rattle.model_pagecore.specs.CleanerPages.{AreBatch, IsBatchKept, CleanerAt, CleanerFits, CleanerHolds, HasPage, InBatch, Looking, Unlisting}
+use Rattle.model_pagecore.specs.UserPages.{AreLatched, HasPagesInHand, HasUntouchedPages, IsNear, UserClosingAt, UserHolds, UserPagesAt, UserPageFits, PagesInHand, group_in_hand}
+use Rattle.model_pagecore.specs.HeldPages.{At, HasList, HoldsOnly}
+use Rattle.model_pagecore.specs.CheckpointerPages.{CanGive, CheckpointerPagesAt, CheckpointerPageFits, ReadBelow}
+use Rattle.model_pagecore.specs.CloserPages.{CloserAt, CloserFits}
+use Rattle.model_pagecore.specs.ClosingPages.{ClosingAt, HoldsCtail}
+use Rattle.model_pagecore.specs.PageHalf.{PageFits, PageHalf}
 use Rattle.model_pagecore.specs.Pages.{InListOnly, All, Before, AgreeBelow, Cells, InWordOnly, FrameIs, FrameStage, GroupInHand, Last, NewestIs, NewestStage, Unlisted, PageIs, Passed, OnePage, ListingStage, ListingIs, IsListed, Agree, cells_on, end_lsn, none_in_hand, last_end, write_cells, is_changed_page, applied_upto, applied_all}
 use Rattle.model_core.specs.declared.steps.AdvanceStep.TheVariants as advance_step
 use Rattle.model_core.specs.declared.steps.UserStep.TheVariants as user_step

@@ -11,7 +11,9 @@ use Rattle.model_pagecore.proofs.PageHistory.{each_more}
 use Rattle.model_pagecore.proofs.PageFrame.{log_same, longer_same, one_page_later, page_later, page_moved, page_others, pages_same}
 use Rattle.model_pagecore.proofs.Unfinished.{unfinished_later}
 use Rattle.model_pagecore.specs.PageFacts.{ClosedLinks, PageGhost, ListFacts, listed_lsn}
-use Rattle.model_pagecore.specs.PageHalf.{At, PageFits, PageHalf, PagesInHand, group_in_hand}
+use Rattle.model_pagecore.specs.HeldPages.{At}
+use Rattle.model_pagecore.specs.PageHalf.{PageFits, PageHalf}
+use Rattle.model_pagecore.specs.UserPages.{PagesInHand, group_in_hand}
 use Rattle.model_pagecore.specs.Pages.{All, Before, AgreeBelow, Cells, FrameStage, GroupInHand, Last, NewestStage, PageIs, OnePage, ListingStage, IsListed, StartsAt, Agree, cells_on, none_in_hand, is_changed_page}
 use Rattle.model_core.specs.Actors as actor
 use Rattle.model_core.specs.declared.limits.TheConstants.{CLOSED_LINKS}

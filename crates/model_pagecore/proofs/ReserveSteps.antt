@@ -15,7 +15,9 @@ use Rattle.model_pagecore.proofs.PageFrame.{log_snoc, longer_snoc, page_moved, p
 use Rattle.model_pagecore.proofs.PageStep.{mate, named}
 use Rattle.model_pagecore.proofs.Unfinished.{unfinished_later}
 use Rattle.model_pagecore.specs.PageFacts.{PageGhost, listed_lsn}
-use Rattle.model_pagecore.specs.PageHalf.{At, PageHalf, UserPagesAt, UserPageFits, group_in_hand}
+use Rattle.model_pagecore.specs.HeldPages.{At}
+use Rattle.model_pagecore.specs.PageHalf.{PageHalf}
+use Rattle.model_pagecore.specs.UserPages.{UserPagesAt, UserPageFits, group_in_hand}
 use Rattle.model_pagecore.specs.Pages.{All, Before, AgreeBelow, Cells, Laid, Last, OnePage, Agree, none_in_hand, last_end, start_lsn, is_changed_page, applied_upto, applied_all}
 use Rattle.model_core.specs.declared.steps.UserStep.TheVariants as user_step
 use Rattle.model_core.specs.Actors as actor

@@ -14,7 +14,9 @@ use Rattle.model_pagecore.proofs.PageStep.{page_quiet}
 use Rattle.model_pagecore.proofs.UserPageSteps.{framed, word_closing}
 use Rattle.model_pagecore.specs.Growing.{Grows}
 use Rattle.model_pagecore.specs.PageFacts.{PageGhost}
-use Rattle.model_pagecore.specs.PageHalf.{ClosingAt, HasPagesInHand, HasUntouchedPages, PageHalf, UserClosingAt, UserPageFits, UserPagesAt}
+use Rattle.model_pagecore.specs.ClosingPages.{ClosingAt}
+use Rattle.model_pagecore.specs.UserPages.{HasPagesInHand, HasUntouchedPages, UserClosingAt, UserPageFits, UserPagesAt}
+use Rattle.model_pagecore.specs.PageHalf.{PageHalf}
 use Rattle.model_pagecore.specs.Pages.{Before, AgreeBelow, Cells, Laid}
 use Rattle.model_core.specs.declared.steps.AdvanceStep.TheVariants as advance_step
 use Rattle.model_core.specs.declared.steps.UserStep.TheVariants as user_step

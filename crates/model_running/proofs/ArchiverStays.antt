@@ -25,13 +25,12 @@ use Rattle.model_core.specs.declared.steps.ReaderStep.{ReaderStep}
 use Rattle.model_core.specs.declared.steps.ReaderStep.TheVariants as reader_step
 use Rattle.model_core.specs.declared.words.Word.TheVariants as word
 use Rattle.model_core.specs.Actors as actor
-use Rattle.model_logcore.specs.{LogGhost}
-use Rattle.model_logcore.specs.LogFits as marks
+use Rattle.model_logcore.specs.{FlusherAt, FlusherFits, LogGhost}
 use Rattle.model_pagecore.specs.{PageGhost}
 use Rattle.model_running.proofs.Archiving.{reader_is, number_stays, stays_other, took_reader}
 use Rattle.model_running.proofs.ReadStays.{asks, checkpointer_leaves, cleaner_leaves, closer_leaves, left_reads}
 use Rattle.model_running.proofs.ReadStays.{user_leaves, writer_leaves}
-use Rattle.model_running.specs.ReadHalf.{ArchiverAt, ArchiverHas}
+use Rattle.model_running.specs.ReaderPlaces.{ArchiverAt, ArchiverHas}
 use Rattle.model_running.specs.RunningStore.{BothHalves}
 
 -- FLUSHED doesn't go back
@@ -93,7 +92,7 @@ module _ (D : LogSide) (E : DataSide) (c : Setup) (m : SharedWords) (g : LogGhos
       by false _ = omega arith
   rises (actor.Flusher t) at = by t.checks t.step refl
     where
-      N : marks.FlusherFits D c m g p seat t
+      N : FlusherFits D c m g p seat t
       N = both.logged.each seat (actor.Flusher t) at
 
       by : (b : Bool) (st : FlusherStep) → t.step ≡ st
@@ -105,7 +104,7 @@ module _ (D : LogSide) (E : DataSide) (c : Setup) (m : SharedWords) (g : LogGhos
           either true = omega arith
           either false = omega arith
       by false flusher_step.StoreFlushed is =
-          let mark : t.mark ≡ D.stable p = subst (marks.FlusherAt D c m g p t) is N.step in
+          let mark : t.mark ≡ D.stable p = subst (FlusherAt D c m g p t) is N.step in
           let low = both.logged.global.part.flushed_stable in omega arith
       by false flusher_step.LoadWrite is = omega arith
       by false _ is = omega arith

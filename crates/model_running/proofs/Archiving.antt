@@ -32,7 +32,8 @@ use Rattle.model_core.specs.declared.steps.ReaderStep.{ReaderStep}
 use Rattle.model_core.specs.declared.steps.ReaderStep.TheVariants as reader_step
 use Rattle.model_core.specs.Actors as actor
 use Rattle.model_running.specs.Appending.{IsNoAppend}
-use Rattle.model_running.specs.ReadHalf.{ReadsInRun, StaysInRun}
+use Rattle.model_running.specs.ReaderPlaces.{ReadsInRun}
+use Rattle.model_running.specs.ReadHalf.{StaysInRun}
 
 -- a reader that has lost an append is at its end
 pub losing_at : (r : ReaderState) (st : ReaderStep) → LostAt r st → 0 < r.lost → IsLosing r

@@ -1,6 +1,7 @@
 -- Whatever an actor's next Op is, its turn keeps the page half.
 use Rattle.model_running.proofs.ReadStays.{given_to, IsFilled, read_kept}
-use Rattle.model_running.specs.ReadHalf.{ArchiverHas, HaveRunBlocks, ReadHalf, StaysInRun}
+use Rattle.model_running.specs.ReaderPlaces.{ArchiverHas}
+use Rattle.model_running.specs.ReadHalf.{HaveRunBlocks, ReadHalf, StaysInRun}
 use Rattle.model_core.specs.Actors.{Room}
 use Rattle.std.proofs.Common.{Bool, List, arith, cond, false, refl, set, subst, sym, true, ℕ, ◌≡◌, ⊎_elim}
 use Rattle.std.specs.Prelude.{slice_index}

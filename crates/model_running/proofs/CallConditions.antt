@@ -8,7 +8,7 @@ use Rattle.model_core.specs.DataSide.{DataSide}
 use Rattle.model_core.specs.LogSide.{LogSide}
 use Rattle.model_core.specs.Setup.{Setup}
 use Rattle.model_logcore.proofs.AnswersFit.{small_sn}
-use Rattle.model_logcore.specs.{LogGhost, UserFits}
+use Rattle.model_logcore.specs.{CheckpointerAt, CheckpointerFits, LogGhost, UserFits}
 use Rattle.model_logcore.specs.LogHalf.{LogHalf}
 use Rattle.model_logcore.specs.LogLaws.{LogLaws}
 use Rattle.model_pagecore.proofs.BatchSteps.{can_batch}
@@ -22,7 +22,6 @@ use Rattle.model_running.specs.RunningStore.{BothHalves}
 use Rattle.model_core.specs.declared.steps.CleanerStep.TheVariants as cleaner_step
 use Rattle.model_core.specs.declared.steps.CheckpointerStep.TheVariants as checkpointer_step
 use Rattle.model_core.specs.Actors as actor
-use Rattle.model_logcore.specs.LogFits as marks
 use Rattle.model_logcore.specs.LogLaws as sights
 
 module _ (D : LogSide) (L : LogLaws D) (E : DataSide) (EL : DataLaws E) (c : Setup) (m : SharedWords) (g : LogGhost) (h : PageGhost) (ls : ℕ → List Listed) (p : D.Part) (d : E.Part) (actors : List Actor) (seat : ℕ) (both : BothHalves D E c m g h ls p d actors) where
@@ -54,8 +53,8 @@ module _ (D : LogSide) (L : LogLaws D) (E : DataSide) (EL : DataLaws E) (c : Set
 
   pub can_checkpoint : (t : CheckpointerState) → get_elem? actors seat ≡ some (actor.Checkpointer t) → t.step ≡ checkpointer_step.Checkpoint → sights.CanCheckpoint D c.blocks c.base g.log t.to p
   can_checkpoint t at is =
-      let N : marks.CheckpointerFits D c m g p seat t = M.each seat (actor.Checkpointer t) at in
-      let n : marks.CheckpointerAt D c m g p t checkpointer_step.Checkpoint = subst (marks.CheckpointerAt D c m g p t) is N.step in
+      let N : CheckpointerFits D c m g p seat t = M.each seat (actor.Checkpointer t) at in
+      let n : CheckpointerAt D c m g p t checkpointer_step.Checkpoint = subst (CheckpointerAt D c m g p t) is N.step in
       let o : CheckpointerPagesAt E c m g.log h ls d seat t checkpointer_step.Checkpoint = subst (CheckpointerPagesAt E c m g.log h ls d seat t) is (page_fits t at).step in
       let r = all_passed E c g.seat_of m g.log (D.stable p) h ls d actors seat B mates W t at o.0 (every (page_fits t at).with_pages) in
       let n0 = n.0 in let o4 = o.0.4 in

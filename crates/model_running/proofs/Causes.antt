@@ -19,7 +19,7 @@ use Rattle.model_core.specs.declared.steps.WriterStep.{WriterStep}
 use Rattle.model_core.specs.declared.steps.FlusherStep.{FlusherStep}
 use Rattle.model_core.specs.declared.steps.ReaderStep.{ReaderStep}
 use Rattle.model_logcore.proofs.DeviceSteps.{can_write}
-use Rattle.model_logcore.specs.{LogGhost}
+use Rattle.model_logcore.specs.{CheckpointerAt, CheckpointerFits, FlusherAt, FlusherFits, LogGhost, ReaderAt, ReaderFits, WriterAt, WriterFits}
 use Rattle.model_logcore.specs.LogLaws.{LogLaws}
 use Rattle.model_pagecore.specs.DataLaws.{DataLaws}
 use Rattle.model_pagecore.specs.{CleanerFits, PageGhost}
@@ -35,7 +35,6 @@ use Rattle.model_core.specs.declared.ops.Op.TheVariants as op
 use Rattle.model_core.specs.declared.steps.WriterStep.TheVariants as writer_step
 use Rattle.model_core.specs.declared.steps.FlusherStep.TheVariants as flusher_step
 use Rattle.model_core.specs.declared.steps.ReaderStep.TheVariants as reader_step
-use Rattle.model_logcore.specs.LogFits as marks
 use Rattle.model_core.specs.declared.ops.Op.{Op}
 use Rattle.model_core.specs.declared.words.Word.{Word}
 use Rattle.model_running.proofs.CallConditions.{after_batch, can_checkpoint}
@@ -107,21 +106,21 @@ module _ (D : LogSide) (L : LogLaws D) (E : DataSide) (EL : DataLaws E) (c : Set
   user_caused u (user_step.AdvanceClosed advance_step.LoadTail) s v = quiet (user_op u (user_step.AdvanceClosed advance_step.LoadTail)) tt s v
   user_caused u f s v = quiet (user_op u f) tt s v
 
-  writer_caused : (s : WriterState) → get_elem? actors seat ≡ some (actor.Writer s) → (f : WriterStep) → marks.WriterAt D c m g p seat s f → LogServed D p (Blocks s.kept s.firsts) (writer_op s f) code q → DataServed E d (Blocks s.kept s.firsts) (writer_op s f) code e → CausedBy (writer_op s f)
+  writer_caused : (s : WriterState) → get_elem? actors seat ≡ some (actor.Writer s) → (f : WriterStep) → WriterAt D c m g p seat s f → LogServed D p (Blocks s.kept s.firsts) (writer_op s f) code q → DataServed E d (Blocks s.kept s.firsts) (writer_op s f) code e → CausedBy (writer_op s f)
   writer_caused s at (writer_step.Advance advance_step.LoadTail) k w v = quiet (writer_op s (writer_step.Advance advance_step.LoadTail)) tt w v
   writer_caused s at writer_step.WriteTo k w v =
-      let S : marks.WriterFits D c m g p seat s = both.logged.each seat (actor.Writer s) at in
+      let S : WriterFits D c m g p seat s = both.logged.each seat (actor.Writer s) at in
       let A = L.writes c.blocks c.base g.log g.write g.target code s.kept s.firsts p q both.logged.global.part.holds (can_write D L c m g p actors seat s both.logged at k) (subst (λ (t : ℕ). D.Wrote t s.kept s.firsts code p q) S.tail w) in
       log_called (writer_op s writer_step.WriteTo) tt A.causes v
   writer_caused s at writer_step.StoreFailed k w v = λ _. inl (subst (λ (y : D.Part). D.Cause y s.code) (sym w) k.1)
   writer_caused s at f k w v = quiet (writer_op s f) tt w v
 
-  flusher_caused : (t : FlusherState) (f : FlusherStep) → marks.FlusherAt D c m g p t f → LogServed D p Nothing (flusher_op t f) code q → DataServed E d Nothing (flusher_op t f) code e → CausedBy (flusher_op t f)
+  flusher_caused : (t : FlusherState) (f : FlusherStep) → FlusherAt D c m g p t f → LogServed D p Nothing (flusher_op t f) code q → DataServed E d Nothing (flusher_op t f) code e → CausedBy (flusher_op t f)
   flusher_caused t flusher_step.Sync k w v = log_called (flusher_op t flusher_step.Sync) tt (L.syncs c.blocks c.base g.log code p q both.logged.global.part.holds k w).causes v
   flusher_caused t flusher_step.StoreFailed k w v = λ _. inl (subst (λ (y : D.Part). D.Cause y t.code) (sym w) k.1)
   flusher_caused t f k w v = quiet (flusher_op t f) tt w v
 
-  reader_caused : (t : ReaderState) → get_elem? actors seat ≡ some (actor.Reader t) → (f : ReaderStep) → marks.ReaderAt D c m g p t f → LogServed D p (Room t.block) (reader_op t f) code q → DataServed E d (Room t.block) (reader_op t f) code e → CausedBy (reader_op t f)
+  reader_caused : (t : ReaderState) → get_elem? actors seat ≡ some (actor.Reader t) → (f : ReaderStep) → ReaderAt D c m g p t f → LogServed D p (Room t.block) (reader_op t f) code q → DataServed E d (Room t.block) (reader_op t f) code e → CausedBy (reader_op t f)
   reader_caused t at reader_step.ReadBlock k w v = log_called (reader_op t reader_step.ReadBlock) tt (L.reads c.blocks c.base g.log (next_block t) code t.block p q both.logged.global.part.holds k w).causes v
   reader_caused t at reader_step.StoreFailed k w v = λ _. inl (subst (λ (y : D.Part). D.Cause y t.code) (sym w) k.1)
   reader_caused t at reader_step.StoreLost k w v = λ _. inr (inr (lost t.lost (record { seat = seat; archiver = t; at = at; lost = refl; some_code = k })))
@@ -138,7 +137,7 @@ module _ (D : LogSide) (L : LogLaws D) (E : DataSide) (EL : DataLaws E) (c : Set
       λ _. inr (inl (subst (λ (y : E.Part). E.Cause y x.code) (sym v) (X.cause is)))
   cleaner_caused x at f is w v = quiet (cleaner_op x f) tt w v
 
-  checkpointer_caused : (t : CheckpointerState) → get_elem? actors seat ≡ some (actor.Checkpointer t) → (f : CheckpointerStep) → t.step ≡ f → marks.CheckpointerAt D c m g p t f → LogServed D p Nothing (checkpointer_op t f) code q → DataServed E d Nothing (checkpointer_op t f) code e → CausedBy (checkpointer_op t f)
+  checkpointer_caused : (t : CheckpointerState) → get_elem? actors seat ≡ some (actor.Checkpointer t) → (f : CheckpointerStep) → t.step ≡ f → CheckpointerAt D c m g p t f → LogServed D p Nothing (checkpointer_op t f) code q → DataServed E d Nothing (checkpointer_op t f) code e → CausedBy (checkpointer_op t f)
   checkpointer_caused t at checkpointer_step.Checkpoint is k w v = log_called (checkpointer_op t checkpointer_step.Checkpoint) tt (L.checkpoints c.blocks c.base g.log t.to code p q both.logged.global.part.holds (can_checkpoint D L E EL c m g h ls p d actors seat both t at is) w).causes v
   checkpointer_caused t at checkpointer_step.StoreFailed is k w v = λ _. inl (subst (λ (y : D.Part). D.Cause y t.code) (sym w) k.1)
   checkpointer_caused t at f is k w v = quiet (checkpointer_op t f) tt w v
@@ -154,17 +153,17 @@ module _ (D : LogSide) (L : LogLaws D) (E : DataSide) (EL : DataLaws E) (c : Set
     where
       by : (b : Bool) → LogServed D p (Blocks s.kept s.firsts) (cond b (op.Load word.Failed) (writer_op s s.step)) code q → DataServed E d (Blocks s.kept s.firsts) (cond b (op.Load word.Failed) (writer_op s s.step)) code e → CausedBy (cond b (op.Load word.Failed) (writer_op s s.step))
       by true w v = quiet (op.Load word.Failed) tt w v
-      by false w v = let S : marks.WriterFits D c m g p seat s = both.logged.each seat (actor.Writer s) at in writer_caused s at s.step S.step w v
+      by false w v = let S : WriterFits D c m g p seat s = both.logged.each seat (actor.Writer s) at in writer_caused s at s.step S.step w v
   caused (actor.Flusher t) at w v = by t.checks w v
     where
       by : (b : Bool) → LogServed D p Nothing (cond b (op.Load word.Failed) (flusher_op t t.step)) code q → DataServed E d Nothing (cond b (op.Load word.Failed) (flusher_op t t.step)) code e → CausedBy (cond b (op.Load word.Failed) (flusher_op t t.step))
       by true w v = quiet (op.Load word.Failed) tt w v
-      by false w v = let T : marks.FlusherFits D c m g p seat t = both.logged.each seat (actor.Flusher t) at in flusher_caused t t.step T.step w v
+      by false w v = let T : FlusherFits D c m g p seat t = both.logged.each seat (actor.Flusher t) at in flusher_caused t t.step T.step w v
   caused (actor.Reader t) at w v = by t.checks w v
     where
       by : (b : Bool) → LogServed D p (Room t.block) (cond b (op.Load word.Failed) (reader_op t t.step)) code q → DataServed E d (Room t.block) (cond b (op.Load word.Failed) (reader_op t t.step)) code e → CausedBy (cond b (op.Load word.Failed) (reader_op t t.step))
       by true w v = quiet (op.Load word.Failed) tt w v
-      by false w v = let T : marks.ReaderFits D c m g p seat t = both.logged.each seat (actor.Reader t) at in reader_caused t at t.step T.step w v
+      by false w v = let T : ReaderFits D c m g p seat t = both.logged.each seat (actor.Reader t) at in reader_caused t at t.step T.step w v
   caused (actor.Closer t) at w v = by t.checks w v
     where
       by : (b : Bool) → LogServed D p Nothing (cond b (op.Load word.Failed) (closer_op t t.step)) code q → DataServed E d Nothing (cond b (op.Load word.Failed) (closer_op t t.step)) code e → CausedBy (cond b (op.Load word.Failed) (closer_op t t.step))
@@ -179,4 +178,4 @@ module _ (D : LogSide) (L : LogLaws D) (E : DataSide) (EL : DataLaws E) (c : Set
     where
       by : (b : Bool) → LogServed D p Nothing (cond b (op.Load word.Failed) (checkpointer_op t t.step)) code q → DataServed E d Nothing (cond b (op.Load word.Failed) (checkpointer_op t t.step)) code e → CausedBy (cond b (op.Load word.Failed) (checkpointer_op t t.step))
       by true w v = quiet (op.Load word.Failed) tt w v
-      by false w v = let N : marks.CheckpointerFits D c m g p seat t = both.logged.each seat (actor.Checkpointer t) at in checkpointer_caused t at t.step refl N.step w v
+      by false w v = let N : CheckpointerFits D c m g p seat t = both.logged.each seat (actor.Checkpointer t) at in checkpointer_caused t at t.step refl N.step w v

@@ -17,7 +17,7 @@ use Rattle.model_core.specs.declared.limits.TheConstants.{CLOSED_LINKS}
 use Rattle.model_logcore.specs.{LogGhost, UserAt, UserFits}
 use Rattle.model_pagecore.specs.{ClosedLinks, Grows, PageGhost, UserPageFits, UserPagesAt}
 use Rattle.model_core.proofs.Later.{took_later, was_user}
-use Rattle.model_core.specs.Actors.{IsSameActor}
+use Rattle.model_core.specs.Program.{IsSameActor}
 use Rattle.model_running.proofs.UserCloses.{Needs, closes, closes_checked}
 use Rattle.model_running.specs.RunningStore.{BothHalves}
 use Rattle.model_running.specs.UsersClosed.{HandIsClosed, UserClosed, UsersClosed}

@@ -19,14 +19,14 @@ use Rattle.model_core.specs.declared.words.LinkBuffer.TheVariants as link_buffer
 use Rattle.model_core.specs.declared.words.Word.TheVariants as word
 use Rattle.model_core.specs.Actors as actor
 use Rattle.model_logcore.proofs.ReaderSteps.{reads_on}
-use Rattle.model_logcore.specs.{LogGhost, ReaderFits}
-use Rattle.model_logcore.specs.LogFits as marks
+use Rattle.model_logcore.specs.{LogGhost, ReaderAt, ReaderFits}
 use Rattle.model_pagecore.specs.{HasLatch, PageGhost}
 use Rattle.model_pagecore.specs.PageHalf.{PageFits}
 use Rattle.model_running.proofs.InRun.{lost_same}
 use Rattle.model_running.proofs.ReadKeeps.{reader_goes}
 use Rattle.model_running.proofs.ReadStays.{IsFilled, ReaderIsFilled}
-use Rattle.model_running.specs.ReadHalf.{ArchiverAt, ArchiverHas, FollowerAt, HasMore, HasRunBlock, ReaderHas, ReadFits, ReadsInRun, RunBlockAt, StaysInRun}
+use Rattle.model_running.specs.ReaderPlaces.{ArchiverAt, ArchiverHas, FollowerAt, HasMore, HasRunBlock, ReaderHas, ReadsInRun, RunBlockAt}
+use Rattle.model_running.specs.ReadHalf.{ReadFits, StaysInRun}
 use Rattle.model_running.specs.RunningStore.{BothHalves}
 
 module _ (D : LogSide) (E : DataSide) (c : Setup) (m : SharedWords) (g : LogGhost) (h : PageGhost) (ls : ℕ → List Listed) (p : D.Part) (d : E.Part) (actors : List Actor) (seat : ℕ) (both : BothHalves D E c m g h ls p d actors) where
@@ -119,7 +119,7 @@ module _ (D : LogSide) (E : DataSide) (c : Setup) (m : SharedWords) (g : LogGhos
     I : ReadsInRun c r
     I = both.in_run seat (actor.Reader r) at
 
-    with_block : (b : List ℕ) (st : ReaderStep) → marks.ReaderAt D c m g p r st → marks.ReaderAt D c m g p (record r { block = b }) st
+    with_block : (b : List ℕ) (st : ReaderStep) → ReaderAt D c m g p r st → ReaderAt D c m g p (record r { block = b }) st
     with_block b reader_step.ReadBlock k = k
     with_block b reader_step.StoreFailed k = k
     with_block b reader_step.GiveFailed k = k
@@ -127,7 +127,7 @@ module _ (D : LogSide) (E : DataSide) (c : Setup) (m : SharedWords) (g : LogGhos
     with_block b reader_step.Failed k = k
     with_block b _ k = tt
 
-    with_texts : (ts : List (List ℕ)) (st : ReaderStep) → marks.ReaderAt D c m g p r st → marks.ReaderAt D c m g p (record r { texts = ts }) st
+    with_texts : (ts : List (List ℕ)) (st : ReaderStep) → ReaderAt D c m g p r st → ReaderAt D c m g p (record r { texts = ts }) st
     with_texts ts reader_step.ReadBlock k = k
     with_texts ts reader_step.StoreFailed k = k
     with_texts ts reader_step.GiveFailed k = k

@@ -11,7 +11,7 @@ use Rattle.model_base.specs.declared.limits.TheConstants.{MAX_GROUP}
 use Rattle.model_log.specs.{group_text}
 use Rattle.model_log.proofs.Several.{one_group}
 use Rattle.model_parts.proofs.Bytes.{group_text-some}
-use Rattle.model_running.specs.ReadHalf.{given_of, groups_upto}
+use Rattle.model_running.specs.ReaderPlaces.{given_of, groups_upto}
 
 -- no text of a group begins another's
 pub one_text : (t u x y : List ℕ) → IsText t → IsText u → t ++ x ≡ u ++ y → (t ≡ u) × (x ≡ y)

@@ -22,7 +22,9 @@ use Rattle.model_core.specs.declared.steps.CheckpointerStep.{CheckpointerStep}
 use Rattle.model_core.specs.declared.steps.CheckpointerStep.TheVariants as checkpointer_step
 use Rattle.model_core.specs.declared.steps.ReaderStep.{ReaderStep}
 use Rattle.model_core.specs.declared.steps.ReaderStep.TheVariants as reader_step
-use Rattle.model_running.specs.ReadHalf.{NumberAt, ReadsInRun, StaysInRun}
+use Rattle.model_running.specs.CheckpointerPlaces.{NumberAt}
+use Rattle.model_running.specs.ReaderPlaces.{ReadsInRun}
+use Rattle.model_running.specs.ReadHalf.{StaysInRun}
 
 -- what an append is answered
 abbrev pub AppendFits : Op → Answer → Type 0

@@ -18,7 +18,7 @@ use Rattle.model_core.specs.declared.steps.ReaderStep.{ReaderStep}
 use Rattle.model_core.specs.declared.steps.UserStep.{UserStep}
 use Rattle.model_core.specs.declared.steps.WriterStep.{WriterStep}
 use Rattle.model_logcore.proofs.DeviceSteps.{can_write}
-use Rattle.model_logcore.specs.{LogGhost}
+use Rattle.model_logcore.specs.{FlusherAt, FlusherFits, LogGhost, ReaderAt, ReaderFits, WriterAt, WriterFits}
 use Rattle.model_logcore.specs.LogLaws.{AfterCheckpoint, AfterRead, AfterSync, AfterWrite, LogLaws}
 use Rattle.model_pagecore.specs.DataLaws.{DataLaws}
 use Rattle.model_pagecore.specs.{PageGhost}
@@ -35,7 +35,6 @@ use Rattle.model_core.specs.declared.steps.ReaderStep.TheVariants as reader_step
 use Rattle.model_core.specs.declared.steps.UserStep.TheVariants as user_step
 use Rattle.model_core.specs.declared.steps.WriterStep.TheVariants as writer_step
 use Rattle.model_core.specs.declared.words.Word.TheVariants as word
-use Rattle.model_logcore.specs.LogFits as marks
 
 module _ (D : LogSide) (L : LogLaws D) (E : DataSide) (EL : DataLaws E) (c : Setup) (m : SharedWords)
     (g : LogGhost) (h : PageGhost) (ls : ℕ → List Listed) (p : D.Part) (d : E.Part) (actors : List Actor) (seat : ℕ)
@@ -53,23 +52,23 @@ module _ (D : LogSide) (L : LogLaws D) (E : DataSide) (EL : DataLaws E) (c : Set
     by_user u _ w = still w
 
     by_writer : (s : WriterState) → get_elem? actors seat ≡ some (actor.Writer s) → (f : WriterStep)
-        → marks.WriterAt D c m g p seat s f → LogServed D p (Blocks s.kept s.firsts) (writer_op s f) code q → Then
+        → WriterAt D c m g p seat s f → LogServed D p (Blocks s.kept s.firsts) (writer_op s f) code q → Then
     by_writer s at writer_step.WriteTo k w =
-        let S : marks.WriterFits D c m g p seat s = both.logged.each seat (actor.Writer s) at in
+        let S : WriterFits D c m g p seat s = both.logged.each seat (actor.Writer s) at in
         wrote (lsn g.target) (L.writes c.blocks c.base g.log g.write g.target code s.kept s.firsts p q
         both.logged.global.part.holds (can_write D L c m g p actors seat s both.logged at k)
         (subst (λ (t : ℕ). D.Wrote t s.kept s.firsts code p q) S.tail w))
     by_writer s at (writer_step.Advance advance_step.LoadTail) k w = still w
     by_writer s at _ k w = still w
 
-    by_flusher : (t : FlusherState) (f : FlusherStep) → marks.FlusherAt D c m g p t f
+    by_flusher : (t : FlusherState) (f : FlusherStep) → FlusherAt D c m g p t f
         → LogServed D p Nothing (flusher_op t f) code q → Then
     by_flusher t flusher_step.Sync k w =
         synced (L.syncs c.blocks c.base g.log code p q both.logged.global.part.holds k w)
     by_flusher t flusher_step.LoadWrite k w = still w
     by_flusher t _ k w = still w
 
-    by_reader : (t : ReaderState) (f : ReaderStep) → marks.ReaderAt D c m g p t f
+    by_reader : (t : ReaderState) (f : ReaderStep) → ReaderAt D c m g p t f
         → LogServed D p (Room t.block) (reader_op t f) code q → Then
     by_reader t reader_step.ReadBlock k w =
         read (L.reads c.blocks c.base g.log (next_block t) code t.block p q both.logged.global.part.holds k w)
@@ -101,13 +100,13 @@ module _ (D : LogSide) (L : LogLaws D) (E : DataSide) (EL : DataLaws E) (c : Set
     pub after_call : (a : Actor) → get_elem? actors seat ≡ some a → LogServed D p (lent a) (next a) code q → Then
     after_call (actor.User u) at w = checking Nothing u.checks (user_op u u.step) (by_user u u.step) w
     after_call (actor.Writer s) at w =
-        let S : marks.WriterFits D c m g p seat s = both.logged.each seat (actor.Writer s) at in
+        let S : WriterFits D c m g p seat s = both.logged.each seat (actor.Writer s) at in
         checking (Blocks s.kept s.firsts) s.checks (writer_op s s.step) (by_writer s at s.step S.step) w
     after_call (actor.Flusher t) at w =
-        let T : marks.FlusherFits D c m g p seat t = both.logged.each seat (actor.Flusher t) at in
+        let T : FlusherFits D c m g p seat t = both.logged.each seat (actor.Flusher t) at in
         checking Nothing t.checks (flusher_op t t.step) (by_flusher t t.step T.step) w
     after_call (actor.Reader t) at w =
-        let T : marks.ReaderFits D c m g p seat t = both.logged.each seat (actor.Reader t) at in
+        let T : ReaderFits D c m g p seat t = both.logged.each seat (actor.Reader t) at in
         checking (Room t.block) t.checks (reader_op t t.step) (by_reader t t.step T.step) w
     after_call (actor.Closer t) at w = checking Nothing t.checks (closer_op t t.step) (by_closer t t.step) w
     after_call (actor.Cleaner v) at w = checking (Batch v.batch) v.checks (cleaner_op v v.step) (by_cleaner v v.step) w

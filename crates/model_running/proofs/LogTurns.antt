@@ -15,7 +15,7 @@ use Rattle.model_core.specs.declared.steps.WriterStep.{WriterStep}
 use Rattle.model_core.specs.declared.steps.FlusherStep.{FlusherStep}
 use Rattle.model_core.specs.declared.steps.ReaderStep.{ReaderStep}
 use Rattle.model_logcore.proofs.DeviceSteps.{can_write}
-use Rattle.model_logcore.specs.{LogGhost}
+use Rattle.model_logcore.specs.{FlusherAt, FlusherFits, LogGhost, ReaderAt, ReaderFits, WriterAt, WriterFits}
 use Rattle.model_logcore.specs.LogHalf.{LogHalf}
 use Rattle.model_logcore.specs.LogLaws.{LogLaws}
 use Rattle.model_pagecore.proofs.CloserSteps.{keeps_closer_advance}
@@ -33,7 +33,6 @@ use Rattle.model_core.specs.declared.ops.Op.TheVariants as op
 use Rattle.model_core.specs.declared.steps.WriterStep.TheVariants as writer_step
 use Rattle.model_core.specs.declared.steps.FlusherStep.TheVariants as flusher_step
 use Rattle.model_core.specs.declared.steps.ReaderStep.TheVariants as reader_step
-use Rattle.model_logcore.specs.LogFits as marks
 use Rattle.model_running.proofs.PageTurn.{PageDone, as_is, laid_of, mates, pass, rested, still_part, unmoved}
 
 module _ (D : LogSide) (L : LogLaws D) (E : DataSide) (c : Setup) (m : SharedWords) (g : LogGhost) (h : PageGhost) (ls : ℕ → List Listed) (p : D.Part) (d : E.Part) (actors : List Actor) (seat : ℕ) (both : BothHalves D E c m g h ls p d actors) (code : ℕ) (q : D.Part) (e : E.Part) where
@@ -104,10 +103,10 @@ module _ (D : LogSide) (L : LogLaws D) (E : DataSide) (c : Setup) (m : SharedWor
       by false a = pass both seat _ (actor.Reader x) k a ge refl refl refl refl refl refl (omega arith) tt v
 
   module _ (s : WriterState) (at : get_elem? actors seat ≡ some (actor.Writer s)) where
-    S1 : marks.WriterFits D c m g p seat s
+    S1 : WriterFits D c m g p seat s
     S1 = both.logged.each seat (actor.Writer s) at
 
-    writer_ge : (f : WriterStep) → marks.WriterAt D c m g p seat s f → LogServed D p (Blocks s.kept s.firsts) (writer_op s f) code q → D.stable p ≤ D.stable q
+    writer_ge : (f : WriterStep) → WriterAt D c m g p seat s f → LogServed D p (Blocks s.kept s.firsts) (writer_op s f) code q → D.stable p ≤ D.stable q
     writer_ge writer_step.WriteTo k v = let r = (L.writes c.blocks c.base g.log g.write g.target code s.kept s.firsts p q both.logged.global.part.holds (can_write D L c m g p actors seat s both.logged at k) (subst (λ (t : ℕ). D.Wrote t s.kept s.firsts code p q) S1.tail v)).stable in omega arith
     writer_ge (writer_step.Advance advance_step.LoadTail) k v = still_part D v
     writer_ge _ k v = still_part D v
@@ -127,14 +126,14 @@ module _ (D : LogSide) (L : LogLaws D) (E : DataSide) (c : Setup) (m : SharedWor
     writer_turn false x k after w v = writer_lists s.step g.log (shared_left m (writer_op s s.step)) (actor.Writer x) (writer_page s s.step x k after (writer_ge s.step S1.step w) (writer_stored s.step v))
 
   module _ (t : FlusherState) (at : get_elem? actors seat ≡ some (actor.Flusher t)) where
-    T1 : marks.FlusherFits D c m g p seat t
+    T1 : FlusherFits D c m g p seat t
     T1 = both.logged.each seat (actor.Flusher t) at
 
     synced_ge : (b : Bool) → D.stable q ≡ cond b (D.written p) (D.stable p) → D.stable p ≤ D.stable q
     synced_ge true r = let z = both.logged.global.part.stable_written in omega arith
     synced_ge false r = omega arith
 
-    flusher_ge : (f : FlusherStep) → marks.FlusherAt D c m g p t f → LogServed D p Nothing (flusher_op t f) code q → D.stable p ≤ D.stable q
+    flusher_ge : (f : FlusherStep) → FlusherAt D c m g p t f → LogServed D p Nothing (flusher_op t f) code q → D.stable p ≤ D.stable q
     flusher_ge flusher_step.Sync k v = synced_ge (eqb code 0) (L.syncs c.blocks c.base g.log code p q both.logged.global.part.holds k v).stable
     flusher_ge flusher_step.LoadWrite k v = still_part D v
     flusher_ge _ k v = still_part D v
@@ -152,7 +151,7 @@ module _ (D : LogSide) (L : LogLaws D) (E : DataSide) (c : Setup) (m : SharedWor
         → Done (shared_left m (cond b (op.Load word.Failed) (flusher_op t t.step))) g.log (lists_left ls (λ i. slice_index m.lists i) (cond b (op.Load word.Failed) (flusher_op t t.step))) (actor.Flusher x)
     flusher_turn true x k after w v = pass both seat m (actor.Flusher x) k after (still_part D w) refl refl refl refl refl refl (omega arith) tt v
     flusher_turn false x k after w v = flusher_lists t.step g.log (shared_left m (flusher_op t t.step)) (actor.Flusher x) (flusher_page t t.step x k
-        (λ z. let r : t.mark ≡ D.stable p = subst (marks.FlusherAt D c m g p t) z T1.step in let y = both.logged.global.part.flushed_stable in omega arith)
+        (λ z. let r : t.mark ≡ D.stable p = subst (FlusherAt D c m g p t) z T1.step in let y = both.logged.global.part.flushed_stable in omega arith)
         after (flusher_ge t.step T1.step w) (flusher_stored t.step v))
 
   module _ (t : CloserState) (at : get_elem? actors seat ≡ some (actor.Closer t)) where
@@ -189,10 +188,10 @@ module _ (D : LogSide) (L : LogLaws D) (E : DataSide) (c : Setup) (m : SharedWor
       by closer_step.Failed is w v = as_is D E c m h actors seat p q d e _ w v (closer_page t at closer_step.Failed is)
 
   module _ (t : ReaderState) (at : get_elem? actors seat ≡ some (actor.Reader t)) where
-    R1 : marks.ReaderFits D c m g p seat t
+    R1 : ReaderFits D c m g p seat t
     R1 = both.logged.each seat (actor.Reader t) at
 
-    reader_ge : (f : ReaderStep) → marks.ReaderAt D c m g p t f → LogServed D p (Room t.block) (reader_op t f) code q → D.stable p ≤ D.stable q
+    reader_ge : (f : ReaderStep) → ReaderAt D c m g p t f → LogServed D p (Room t.block) (reader_op t f) code q → D.stable p ≤ D.stable q
     reader_ge reader_step.ReadBlock k v = let r = (L.reads c.blocks c.base g.log (next_block t) code t.block p q both.logged.global.part.holds k v).stable in omega arith
     reader_ge reader_step.LoadFlushed k v = still_part D v
     reader_ge _ k v = still_part D v

@@ -20,7 +20,9 @@ use Rattle.model_log.specs.declared.layout.TheConstants.{BLOCK_DATA}
 use Rattle.model_logcore.specs.LogLaws.{CanRead, HasBlock}
 use Rattle.model_running.proofs.Following.{AreTexts, bound_from, bound_upto, piece_grown}
 use Rattle.model_running.proofs.Places.{sn_back}
-use Rattle.model_running.specs.ReadHalf.{ArchiverAt, ArchiverHas, CandidateAt, CandidateFits, FollowerAt, FollowerHas, groups_upto, HasByKind, HasMore, HasPiece, IsFlushedTo, IsUnderPlaces, ReaderHas, ReadFits}
+use Rattle.model_running.specs.ReaderPlaces.{ArchiverAt, ArchiverHas, FollowerAt, FollowerHas, groups_upto, HasByKind, HasMore, HasPiece, IsFlushedTo, ReaderHas}
+use Rattle.model_running.specs.CheckpointerPlaces.{CandidateAt, CandidateFits, IsUnderPlaces}
+use Rattle.model_running.specs.ReadHalf.{ReadFits}
 
 -- by kind: the archiver, or a follower
 pub kind_map : (b : Bool) (c : Setup) (m m' : SharedWords) (log log' : List Entry) (r r' : ReaderState) → HasByKind c m log b r

@@ -10,7 +10,8 @@ use Rattle.model_core.specs.declared.limits.TheConstants.{READERS}
 use Rattle.model_core.specs.declared.steps.ReaderStep.TheVariants as reader_step
 use Rattle.model_log.specs.declared.layout.TheConstants.{BLOCK_DATA}
 use Rattle.model_running.proofs.Following.{text_some}
-use Rattle.model_running.specs.ReadHalf.{ArchiverAt, ArchiverHas, CandidateAt, CandidateFits, FollowerAt, HasByKind, ReaderHas, ReadsInRun}
+use Rattle.model_running.specs.ReaderPlaces.{ArchiverAt, ArchiverHas, FollowerAt, HasByKind, ReaderHas, ReadsInRun}
+use Rattle.model_running.specs.CheckpointerPlaces.{CandidateAt, CandidateFits}
 
 module _ (c : Setup) (m : SharedWords) (even : c.base % BLOCK_DATA ≡ 0) (flushed : m.flushed ≡ lsn c.base)
     (places : (i : ℕ) → i < READERS → slice_index m.places i ≡ cond (eqb i 0) (start_checkpoint c) (lsn c.base)) where

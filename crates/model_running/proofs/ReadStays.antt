@@ -35,16 +35,17 @@ use Rattle.model_core.specs.declared.words.Word.{Word}
 use Rattle.model_core.specs.declared.words.Word.TheVariants as word
 use Rattle.model_core.specs.Actors as actor
 use Rattle.model_core.specs.NamedWords.{read}
-use Rattle.model_logcore.specs.{LogGhost}
+use Rattle.model_logcore.specs.{FlusherAt, FlusherFits, LogGhost, ReaderAt, ReaderFits, UserAt, UserFits}
 use Rattle.model_logcore.specs.LogLaws.{HasBlock, LogLaws}
-use Rattle.model_logcore.specs.LogFits as marks
 use Rattle.model_pagecore.specs.{CheckpointerPageFits, CheckpointerPagesAt, PageGhost}
 use Rattle.model_pagecore.specs.DataLaws.{DataLaws}
 use Rattle.model_running.proofs.LogCalls.{asked_bound}
 use Rattle.model_running.proofs.Following.{AreTexts}
 use Rattle.model_running.proofs.ReadKeeps.{candidate_later, can_read, LogGrows, others_read, reader_goes, reader_later, reads_piece}
 use Rattle.model_running.proofs.ReadTurns.{appends, begins, loads_place, lower, reads_block, reads_flushed, stores_place}
-use Rattle.model_running.specs.ReadHalf.{ArchiverAt, CandidateAt, CandidateFits, FollowerAt, HasMore, ReaderHas, ReadFits, ReadHalf, ReadsInRun}
+use Rattle.model_running.specs.ReaderPlaces.{ArchiverAt, FollowerAt, HasMore, ReaderHas, ReadsInRun}
+use Rattle.model_running.specs.CheckpointerPlaces.{CandidateAt, CandidateFits}
+use Rattle.model_running.specs.ReadHalf.{ReadFits, ReadHalf}
 use Rattle.model_running.specs.RunningStore.{BothHalves}
 
 -- a reader that is about to give the log part back has the whole groups in front of what it then has
@@ -194,10 +195,10 @@ module _ (D : LogSide) (L : LogLaws D) (E : DataSide) (EL : DataLaws E) (c : Set
   reserved u at true checks = same_log g.log m.sn
   reserved u at false checks = by u.step U.step
     where
-      U : marks.UserFits D c m g p seat u
+      U : UserFits D c m g p seat u
       U = both.logged.each seat (actor.User u) at
 
-      by : (f : UserStep) → marks.UserAt D c m g p seat u f → LogGrows g.log (phase_log g.log m.sn u f) m.sn
+      by : (f : UserStep) → UserAt D c m g p seat u f → LogGrows g.log (phase_log g.log m.sn u f) m.sn
       by user_step.Reserve k = record { how = inr (entry u.user u.k m.sn (line u), refl, refl, (U.sound u.k k.1).0) }
       by user_step.LoadCheckpoint k = same_log g.log m.sn
       by _ k = same_log g.log m.sn
@@ -243,7 +244,7 @@ module _ (D : LogSide) (L : LogLaws D) (E : DataSide) (EL : DataLaws E) (c : Set
         again h = record { to = h.to; mark = h.mark; flushed = h.flushed; more = h.more }
 
     -- its read is answered
-    has_read : (b : Bool) → eqb code 0 ≡ b → r.step ≡ reader_step.ReadBlock → marks.ReaderAt D c m g p r reader_step.ReadBlock → D.Read (next_block r) r.block code p q
+    has_read : (b : Bool) → eqb code 0 ≡ b → r.step ≡ reader_step.ReadBlock → ReaderAt D c m g p r reader_step.ReadBlock → D.Read (next_block r) r.block code p q
         → ReaderHas c m g.log seat (reader_took r (cond b (answer.Called 0) (answer.Failed code)) reader_step.ReadBlock)
     has_read false e is sound w = plain code r.checks reader_step.StoreFailed (λ _. tt) (λ _. tt)
     has_read true e is sound w =
@@ -260,7 +261,7 @@ module _ (D : LogSide) (L : LogLaws D) (E : DataSide) (EL : DataLaws E) (c : Set
               seat r R under_it F H kind block,
         ))
 
-    reader_mine : (f : ReaderStep) → r.step ≡ f → marks.ReaderAt D c m g p r f → ReaderIsFilled r f → LogServed D p (Room r.block) (reader_op r f) code q
+    reader_mine : (f : ReaderStep) → r.step ≡ f → ReaderAt D c m g p r f → ReaderIsFilled r f → LogServed D p (Room r.block) (reader_op r f) code q
         → ReaderHas c (shared_left m (reader_op r f)) g.log seat (reader_took r (shared_answer ls (D.failed p) code (D.stable q) m (reader_op r f)) f)
     reader_mine reader_step.LoadFlushed is k full w = let O = both.logged.global.order in reads_flushed c m g.log m.sn tiles all seat r R g.flushed O.flushed_is O.flushed_bound
     reader_mine reader_step.TakeDevice is k full w = by (eqb m.device 0) (D.failed p)
@@ -285,7 +286,7 @@ module _ (D : LogSide) (L : LogLaws D) (E : DataSide) (EL : DataLaws E) (c : Set
     reader_mine reader_step.GiveFailed is k full w = carried (record m { device = 0 }) _ (refl, refl) (plain r.code r.checks reader_step.Failed (λ _. tt) (λ _. tt))
     reader_mine reader_step.Failed is k full w = R
 
-    reader_kept : (f : ReaderStep) → r.step ≡ f → marks.ReaderAt D c m g p r f → ReaderIsFilled r f → LogServed D p (Room r.block) (reader_op r f) code q → ((i : ℕ) → c.first_reader ≤ i → i < c.last_reader → D.asked q ≤ slice_index m.places i)
+    reader_kept : (f : ReaderStep) → r.step ≡ f → ReaderAt D c m g p r f → ReaderIsFilled r f → LogServed D p (Room r.block) (reader_op r f) code q → ((i : ℕ) → c.first_reader ≤ i → i < c.last_reader → D.asked q ≤ slice_index m.places i)
         → ReadHalf D c (shared_left m (reader_op r f)) g.log q (set actors seat (actor.Reader (reader_took r (shared_answer ls (D.failed p) code (D.stable q) m (reader_op r f)) f)))
     reader_kept reader_step.StorePlace is k full w under =
         assembled (record m { places = slice_set m.places r.number r.place }) g.log (actor.Reader (record r { own = r.place; step = reader_step.LoadFlushed })) (same_log g.log m.sn) (omega arith)
@@ -349,7 +350,7 @@ module _ (D : LogSide) (L : LogLaws D) (E : DataSide) (EL : DataLaws E) (c : Set
         → ReadHalf D c (shared_left m (cond b (op.Load word.Failed) (reader_op r r.step))) g.log q
         (set actors seat (cond b (checked (actor.Reader r) (old_of (shared_answer ls (D.failed p) code (D.stable q) m (cond b (op.Load word.Failed) (reader_op r r.step))))) (own_took (actor.Reader r) (shared_answer ls (D.failed p) code (D.stable q) m (cond b (op.Load word.Failed) (reader_op r r.step))))))
     reader_any true checks full w under = quiet m g.log _ (same_log g.log m.sn) (refl, refl) under (reader_hears (eqb m.failed 0))
-    reader_any false checks full w under = let N : marks.ReaderFits D c m g p seat r = both.logged.each seat (actor.Reader r) at in reader_kept r.step refl N.step full w under
+    reader_any false checks full w under = let N : ReaderFits D c m g p seat r = both.logged.each seat (actor.Reader r) at in reader_kept r.step refl N.step full w under
 
   -- THE CHECKPOINTER
   module _ (t : CheckpointerState) (at : get_elem? actors seat ≡ some (actor.Checkpointer t)) where
@@ -420,7 +421,7 @@ module _ (D : LogSide) (L : LogLaws D) (E : DataSide) (EL : DataLaws E) (c : Set
     checkpointer_any false = checkpointer_mine t.step refl T.step
 
   -- A FLUSHER raises FLUSHED
-  flusher_kept : (t : FlusherState) → get_elem? actors seat ≡ some (actor.Flusher t) → (b : Actor) → ReadFits c m g.log seat b → (f : FlusherStep) → marks.FlusherAt D c m g p t f → ((i : ℕ) → c.first_reader ≤ i → i < c.last_reader → D.asked q ≤ slice_index m.places i)
+  flusher_kept : (t : FlusherState) → get_elem? actors seat ≡ some (actor.Flusher t) → (b : Actor) → ReadFits c m g.log seat b → (f : FlusherStep) → FlusherAt D c m g p t f → ((i : ℕ) → c.first_reader ≤ i → i < c.last_reader → D.asked q ≤ slice_index m.places i)
       → ((m' : SharedWords) → ReadFits c m' g.log seat b) → ReadHalf D c (shared_left m (flusher_op t f)) g.log q (set actors seat b)
   flusher_kept t at b fit flusher_step.StoreFlushed k under mine = assembled (record m { flushed = t.mark }) g.log b (same_log g.log m.sn) (let z = both.logged.global.part.flushed_stable in omega arith) (λ i. omega arith) (λ i _. refl) under (mine _)
   flusher_kept t at b fit flusher_step.TakeDevice k under mine = quiet (cond (eqb m.device 0) (record m { device = 1 }) m) g.log b (same_log g.log m.sn) (either_words m (record m { device = 1 }) m (eqb m.device 0) (refl, refl) (refl, refl)) under (mine _)
@@ -435,7 +436,7 @@ module _ (D : LogSide) (L : LogLaws D) (E : DataSide) (EL : DataLaws E) (c : Set
   flusher_any : (t : FlusherState) → get_elem? actors seat ≡ some (actor.Flusher t) → (b : Bool) (x y : FlusherState) → ((i : ℕ) → c.first_reader ≤ i → i < c.last_reader → D.asked q ≤ slice_index m.places i)
       → ReadHalf D c (shared_left m (cond b (op.Load word.Failed) (flusher_op t t.step))) g.log q (set actors seat (cond b (actor.Flusher x) (actor.Flusher y)))
   flusher_any t at true x y under = quiet m g.log (actor.Flusher x) (same_log g.log m.sn) (refl, refl) under tt
-  flusher_any t at false x y under = let N : marks.FlusherFits D c m g p seat t = both.logged.each seat (actor.Flusher t) at in flusher_kept t at (actor.Flusher y) tt t.step N.step under (λ _. tt)
+  flusher_any t at false x y under = let N : FlusherFits D c m g p seat t = both.logged.each seat (actor.Flusher t) at in flusher_kept t at (actor.Flusher y) tt t.step N.step under (λ _. tt)
 
   -- whatever the actor's next Op is
   pub read_kept : (a : Actor) → get_elem? actors seat ≡ some a → IsFilled a → LogServed D p (lent a) (next a) code q

@@ -16,7 +16,8 @@ use Rattle.model_log.specs.{sn_of}
 use Rattle.model_running.proofs.Following.{all_given, AreTexts, bound_after, bound_from, cut_at, given_both, parsed, pieces, reads_less, stream_from, texts_back, tiles_both, upto_front}
 use Rattle.model_running.proofs.Places.{sn_back}
 use Rattle.model_running.proofs.ReadKeeps.{reader_goes}
-use Rattle.model_running.specs.ReadHalf.{ArchiverAt, ArchiverHas, CandidateAt, CandidateFits, FollowerAt, FollowerHas, groups_upto, HasByKind, HasMore, HasPiece, IsUnderPlaces, ReaderHas}
+use Rattle.model_running.specs.ReaderPlaces.{ArchiverAt, ArchiverHas, FollowerAt, FollowerHas, groups_upto, HasByKind, HasMore, HasPiece, ReaderHas}
+use Rattle.model_running.specs.CheckpointerPlaces.{CandidateAt, CandidateFits, IsUnderPlaces}
 
 module _ (c : Setup) (m : SharedWords) (log : List Entry) (sn : ℕ) (tiles : Tiles c.base log sn) (all : AreTexts log) (seat : ℕ) (r : ReaderState) (R : ReaderHas c m log seat r) where
   -- IT LOADS FLUSHED

@@ -29,7 +29,7 @@ use Rattle.model_running.proofs.LogCalls.{told_before}
 use Rattle.model_running.proofs.ReadKeeps.{groups_later, LogGrows}
 use Rattle.model_running.proofs.ReadStays.{IsFilled, ReaderIsFilled, reserved, same_log, texts_of_log}
 use Rattle.model_running.proofs.ReadTurns.{follows}
-use Rattle.model_running.specs.ReadHalf.{FollowerAt, FollowerHas, groups_upto, handed, handed_at, HasByKind, ReaderHas}
+use Rattle.model_running.specs.ReaderPlaces.{FollowerAt, FollowerHas, groups_upto, handed, handed_at, HasByKind, ReaderHas}
 use Rattle.model_running.specs.RunningStore.{BothHalves, IsRunning}
 
 module _ (D : LogSide) (L : LogLaws D) (E : DataSide) (EL : DataLaws E) (c : Setup) (m : SharedWords)

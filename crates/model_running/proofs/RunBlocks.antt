@@ -19,16 +19,15 @@ use Rattle.model_core.specs.declared.steps.ReaderStep.{ReaderStep}
 use Rattle.model_core.specs.declared.steps.ReaderStep.TheVariants as reader_step
 use Rattle.model_core.specs.declared.words.Word.TheVariants as word
 use Rattle.model_core.specs.Actors as actor
-use Rattle.model_logcore.specs.{LogGhost}
+use Rattle.model_logcore.specs.{LogGhost, ReaderAt, ReaderFits}
 use Rattle.model_logcore.specs.LogLaws.{LogLaws}
-use Rattle.model_logcore.specs.LogFits as marks
 use Rattle.model_pagecore.specs.{PageGhost}
 use Rattle.model_pagecore.specs.DataLaws.{DataLaws}
 use Rattle.model_running.proofs.Archiving.{number_stays, reader_is, stays_other, took_reader}
 use Rattle.model_running.proofs.ReadKeeps.{can_read, LogGrows}
 use Rattle.model_running.proofs.ReadStays.{reserved, same_log, texts_of_log}
-use Rattle.model_running.specs.ReadHalf.{ArchiverAt, ArchiverHas, HasByKind, HasRunBlock, HaveRunBlocks, ReaderHas}
-use Rattle.model_running.specs.ReadHalf.{RunBlockAt}
+use Rattle.model_running.specs.ReaderPlaces.{ArchiverAt, ArchiverHas, HasByKind, HasRunBlock, ReaderHas, RunBlockAt}
+use Rattle.model_running.specs.ReadHalf.{HaveRunBlocks}
 use Rattle.model_running.specs.RunningStore.{BothHalves}
 
 -- a reader's block is as it was, and the log may have grown
@@ -75,7 +74,7 @@ module _ (D : LogSide) (L : LogLaws D) (E : DataSide) (EL : DataLaws E) (c : Set
     R = (both.reading before).each seat (actor.Reader r) at
 
     -- its read is answered Ok: the block ends at or below the stable mark
-    reads : archives r ≡ true → r.step ≡ reader_step.ReadBlock → marks.ReaderAt D c m g p r reader_step.ReadBlock
+    reads : archives r ≡ true → r.step ≡ reader_step.ReadBlock → ReaderAt D c m g p r reader_step.ReadBlock
         → D.Read (next_block r) r.block 0 p q → HasRunBlock D c g.log r
     reads kind is sound w =
         let P = both.logged.global.part in let O = both.logged.global.order in
@@ -108,7 +107,7 @@ module _ (D : LogSide) (L : LogLaws D) (E : DataSide) (EL : DataLaws E) (c : Set
     abbrev HasNow : ReaderState → Type 0
     HasNow w = RunBlockAt D c g.log w w.step
 
-    own : archives r ≡ true → (st : ReaderStep) → r.step ≡ st → marks.ReaderAt D c m g p r st
+    own : archives r ≡ true → (st : ReaderStep) → r.step ≡ st → ReaderAt D c m g p r st
         → LogServed D p (Room r.block) (reader_op r st) code q
         → HasNow (reader_took r (shared_answer ls (D.failed p) code (D.stable q) m (reader_op r st)) st)
     own kind reader_step.LoadFlushed is k w = by (has_all r m.flushed)
@@ -162,7 +161,7 @@ module _ (D : LogSide) (L : LogLaws D) (E : DataSide) (EL : DataLaws E) (c : Set
             (has_it kind)
         by false = tt
     its_turn false is kind w =
-        let N : marks.ReaderFits D c m g p seat r = both.logged.each seat (actor.Reader r) at in
+        let N : ReaderFits D c m g p seat r = both.logged.each seat (actor.Reader r) at in
         own kind r.step refl N.step w
 
   abbrev said_to : Actor → Answer

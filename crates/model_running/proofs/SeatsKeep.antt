@@ -7,7 +7,7 @@ use lib.ListN.{get_elem?}
 use Rattle.model_core.proofs.Later.{later_trans, took_later}
 use Rattle.model_core.specs.{Actor, Core, FlusherState, took, UserState, WriterState}
 use Rattle.model_core.specs.DataSide.{DataSide}
-use Rattle.model_core.specs.Actors.{IsSameActor}
+use Rattle.model_core.specs.Program.{IsSameActor}
 use Rattle.model_core.specs.LogSide.{LogSide}
 use Rattle.model_core.specs.Setup.{Setup}
 use Rattle.model_core.specs.Turn.{Turn}

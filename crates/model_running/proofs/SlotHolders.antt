@@ -31,7 +31,7 @@ use Rattle.model_core.specs.declared.steps.WriterStep.TheVariants as writer_step
 use Rattle.model_core.specs.declared.words.Word.TheVariants as word
 use Rattle.model_logcore.specs.{LogGhost}
 use Rattle.model_pagecore.specs.{CheckpointerPageFits, CheckpointerPagesAt, CleanerAt, CleanerFits, PageGhost, UserPageFits, UserPagesAt}
-use Rattle.model_pagecore.specs.PageHalf.{HasList}
+use Rattle.model_pagecore.specs.HeldPages.{HasList}
 use Rattle.model_running.proofs.FlatWords.{flat_read}
 use Rattle.model_running.specs.RunningStore.{IsRunning}
 

@@ -1,6 +1,8 @@
 -- A run's start: both halves of the invariant hold.
 use Rattle.model_running.proofs.ReadStart.{archiver_starts, candidate_starts, reader_starts, starts_in_run, starts_under}
-use Rattle.model_running.specs.ReadHalf.{NumberAt, ReadFits, RunBlockAt, StaysInRun}
+use Rattle.model_running.specs.CheckpointerPlaces.{NumberAt}
+use Rattle.model_running.specs.ReadHalf.{ReadFits, StaysInRun}
+use Rattle.model_running.specs.ReaderPlaces.{RunBlockAt}
 use Rattle.std.proofs.Common.{List, [], ap, arith, false, get_or, length, refl, subst, sym, ℕ, ◌+◌, ◌<◌, ◌≡◌, ◌≢◌}
 use lib.ListN.{get_elem?}
 use mathlib.Core.Option.{some, some-ne-none}
@@ -12,7 +14,10 @@ use Rattle.model_core.specs.Setup.{Setup}
 use Rattle.model_logcore.proofs.DeviceSteps.{alone}
 use Rattle.model_logcore.proofs.NewUsers.{new_user_is}
 use Rattle.model_logcore.proofs.StartHolds.{half_starts, start}
-use Rattle.model_logcore.specs.{checkpointer_start, cleaner_start, closer_start, left_to_reserve, StartActor, sum_over_actors}
+use Rattle.model_core.specs.CheckpointerRow.{checkpointer_start}
+use Rattle.model_core.specs.CleanerRow.{cleaner_start}
+use Rattle.model_core.specs.CloserRow.{closer_start}
+use Rattle.model_logcore.specs.{left_to_reserve, StartActor, sum_over_actors}
 use Rattle.model_core.specs.StartWords.{start_checkpoint}
 use Rattle.model_pagecore.proofs.PageStart.{pages_start}
 use Rattle.model_pagecore.specs.{CheckpointerPageFits, CleanerFits, CloserFits, PageFits, PageGhost, UserPagesAt, UserClosingAt}

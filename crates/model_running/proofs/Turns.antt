@@ -1,7 +1,8 @@
 -- The one step lemma, over the list of words.
 use Rattle.model_running.proofs.ReadStays.{IsFilled}
 use Rattle.model_core.specs.declared.limits.TheConstants.{READERS}
-use Rattle.model_running.specs.ReadHalf.{NumberAt, ReadsInRun}
+use Rattle.model_running.specs.CheckpointerPlaces.{NumberAt}
+use Rattle.model_running.specs.ReaderPlaces.{ReadsInRun}
 use Rattle.std.proofs.Common.{Bool, List, [], ap, arith, cond, eqb, false, get_or, length, refl, set, subst, sym, true, ℕ, ◌*◌, ◌<◌, ◌∙◌, ◌∷◌, ◌≡◌}
 use Rattle.std.specs.Prelude.{slice_index}
 use lib.ListN.{get_elem?}

@@ -1,6 +1,7 @@
 pub mod ActorStore
 pub mod Appending
 pub mod Bounds
+pub mod CheckpointerPlaces
 pub mod ClosedStore
 pub mod DataReady
 pub mod Finished
@@ -14,6 +15,7 @@ pub mod OpenedPages
 pub mod PageContents
 pub mod PlainStore
 pub mod ReadHalf
+pub mod ReaderPlaces
 pub mod RunOf
 pub mod RunningStore
 pub mod Schedule

@@ -12,7 +12,8 @@ use Rattle.model_logcore.specs.LogHalf.{LogHalf}
 use Rattle.model_pagecore.specs.{PageGhost}
 use Rattle.model_pagecore.specs.PageHalf.{PageHalf}
 use Rattle.model_running.specs.LatchesHeld.{LatchesAreHeld}
-use Rattle.model_running.specs.ReadHalf.{ArchiverHas, HaveRunBlocks, ReadHalf, StaysInRun}
+use Rattle.model_running.specs.ReaderPlaces.{ArchiverHas}
+use Rattle.model_running.specs.ReadHalf.{HaveRunBlocks, ReadHalf, StaysInRun}
 use Rattle.model_running.specs.UsersClosed.{UsersClosed}
 use Rattle.model_core.specs.Actors as actor
 use Rattle.model_core.specs.declared.words.Layout.{Layout}

@@ -6,6 +6,7 @@ use mathlib.Core.Option.{some}
 use Rattle.model_core.specs.{Actor, CheckpointerState, CleanerState, CloserState, Core, Each, Entry, flat, HasLost, IsArchiveCode, IsDataCode, IsLogCode, Listed, lsn, page_words_at, Relaxed, SharedWords, UserState}
 use Rattle.model_core.specs.DataSide.{DataSide}
 use Rattle.model_core.specs.LogSide.{LogSide}
+use Rattle.model_core.specs.Rows.{row}
 use Rattle.model_core.specs.Setup.{Setup}
 use Rattle.model_core.specs.declared.limits.TheConstants.{CLOSED_LINKS}
 use Rattle.model_core.specs.declared.steps.CleanerStep.{CleanerStep}
@@ -112,9 +113,4 @@ HasWatermarks D E c s = (m : SharedWords) × (s.words ≡ flat m) × Watermarks 
 
 -- each mark that an actor has loaded last, and its own that it has stored last, is at most the one that is left
 abbrev pub HasMarksWithin : Marks → Actor → Type 0
-HasMarksWithin m (actor.User u) = (u.loaded.wtail ≤ m.wtail) × (u.loaded.write ≤ m.write) × (u.loaded.flushed ≤ m.flushed) × (u.loaded.ckpt ≤ m.ckpt)
-HasMarksWithin m (actor.Writer s) = (s.tail ≤ m.wtail) × (s.write ≤ m.write) × (s.ckpt ≤ m.ckpt)
-HasMarksWithin m (actor.Flusher f) = (f.write ≤ m.write) × (f.last ≤ m.flushed)
-HasMarksWithin m (actor.Cleaner v) = v.flushed ≤ m.flushed
-HasMarksWithin m (actor.Checkpointer t) = (t.flushed ≤ m.flushed) × (t.own ≤ m.ckpt)
-HasMarksWithin m _ = Unit {0}
+HasMarksWithin m a = (row a).within m.ckpt m.write m.wtail m.flushed

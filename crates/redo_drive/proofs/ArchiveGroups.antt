@@ -23,7 +23,7 @@ use Rattle.model_running.proofs.ReadKeeps.{LogGrows}
 use Rattle.model_running.proofs.RunBlocks.{grown}
 use Rattle.model_running.specs.{IsNoAppend}
 use Rattle.model_running.specs.Histories.{AreWholesOf}
-use Rattle.model_running.specs.ReadHalf.{HasRunBlock, RunBlockAt}
+use Rattle.model_running.specs.ReaderPlaces.{HasRunBlock, RunBlockAt}
 use Rattle.redo_archive.specs.Part.{Part, PartArchives}
 use Rattle.redo_archiver.proofs.Longer.{part-longer}
 use Rattle.redo_archiver.specs.{IsFullBlock, KeepsPace}

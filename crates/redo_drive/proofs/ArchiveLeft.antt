@@ -19,7 +19,8 @@ use Rattle.model_running.proofs.Finished.{finished_groups, marks_same}
 use Rattle.model_running.proofs.Groups.{run_of_log}
 use Rattle.model_running.specs.{word_marks}
 use Rattle.model_running.specs.Histories.{AreWholesOf}
-use Rattle.model_running.specs.ReadHalf.{ArchiverHas, HasByKind, ReadHalf, ReaderHas}
+use Rattle.model_running.specs.ReaderPlaces.{ArchiverHas, HasByKind, ReaderHas}
+use Rattle.model_running.specs.ReadHalf.{ReadHalf}
 use Rattle.model_script.specs.declared.script.ScriptLine.{ScriptLine}
 use Rattle.redo_archive.specs.Part.{Part, PartArchives}
 use Rattle.redo_archiver.specs.{append_code, IsToFinish}

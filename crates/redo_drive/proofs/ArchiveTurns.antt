@@ -34,7 +34,7 @@ use Rattle.model_running.proofs.ArchiverStays.{rises}
 use Rattle.model_running.proofs.FlatWords.{flat_left}
 use Rattle.model_running.proofs.Turns.{next_words}
 use Rattle.model_running.specs.{IsNoAppend}
-use Rattle.model_running.specs.ReadHalf.{ReadsInRun}
+use Rattle.model_running.specs.ReaderPlaces.{ReadsInRun}
 use Rattle.redo_archive.specs.Part.{Part}
 use Rattle.redo_archiver.proofs.Turning.{pace-turns}
 use Rattle.redo_archiver.specs.Archived.{appends_at, heard_at, RoundAt}

@@ -15,8 +15,8 @@ use Rattle.model_core.specs.{end_of, Given, lsn, UserState}
 use Rattle.model_core.specs.Actors as model
 use Rattle.model_core.specs.Groups as core
 use Rattle.model_running.specs.Histories.{AreWholesOf, IsWholeOf, log_span}
-use Rattle.model_running.specs.ReadHalf.{groups_upto}
-use Rattle.model_running.specs.ReadHalf as read_half
+use Rattle.model_running.specs.ReaderPlaces.{groups_upto}
+use Rattle.model_running.specs.ReaderPlaces as read_half
 use Rattle.model_log.specs.{Span, span_of}
 use Rattle.model_log.specs.declared.group.Whole.{Whole}
 use Rattle.model_script.specs.declared.script.ScriptLine.{ScriptLine}

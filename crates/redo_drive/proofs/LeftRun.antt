@@ -22,7 +22,8 @@ use Rattle.model_running.proofs.Finished.{finished_groups, finished_losses, fini
 use Rattle.model_running.proofs.Places.{bound_spans, history_spans}
 use Rattle.model_running.specs.Histories.{AreWholesOf}
 use Rattle.model_running.specs.Histories.{log_spans}
-use Rattle.model_running.specs.ReadHalf.{FollowerHas, groups_upto, HasByKind, ReaderHas, ReadHalf}
+use Rattle.model_running.specs.ReaderPlaces.{FollowerHas, groups_upto, HasByKind, ReaderHas}
+use Rattle.model_running.specs.ReadHalf.{ReadHalf}
 use Rattle.model_logcore.specs.{LogGhost}
 use Rattle.model_running.proofs.FinishedPages.{finished_pages}
 use Rattle.model_running.proofs.FinishedStore.{stands_for_run}

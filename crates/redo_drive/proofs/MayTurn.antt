@@ -28,7 +28,8 @@ use Rattle.model_running.proofs.AnswersFitAll.{answer_fits}
 use Rattle.model_running.proofs.BothReady as both_ready
 use Rattle.model_running.proofs.FlatWords.{flat_answer}
 use Rattle.model_running.proofs.InRun.{next_in_run}
-use Rattle.model_running.specs.ReadHalf.{ReadsInRun, StaysInRun}
+use Rattle.model_running.specs.ReaderPlaces.{ReadsInRun}
+use Rattle.model_running.specs.ReadHalf.{StaysInRun}
 use Rattle.model_core.specs.{reader_op, ReaderState}
 use Rattle.model_core.specs.declared.words.Layout.{Layout}
 use Rattle.model_core.specs.declared.steps.ReaderStep.{ReaderStep}

@@ -17,7 +17,8 @@ use Rattle.model_core.specs.Actors as actor
 use Rattle.model_core.specs.Setup.{Setup}
 use Rattle.model_running.proofs.Groups.{line_below}
 use Rattle.model_report.specs.{lines_of_user}
-use Rattle.model_logcore.specs.{StartActor, StartUser}
+use Rattle.model_logcore.specs.{StartActor}
+use Rattle.model_core.specs.UserRow.{StartUser}
 use Rattle.model_parts.proofs.Bytes.{group-bytes}
 use Rattle.model_page.specs.declared.content.Content.{Content}
 use Rattle.model_running.specs.{ArePageActors, AreSeated}

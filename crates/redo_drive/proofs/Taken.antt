@@ -13,7 +13,7 @@ use Rattle.model_core.specs.declared.ops.Step.{Step}
 use Rattle.model_core.specs.declared.ops.Step.TheVariants as step
 use Rattle.model_core.specs.declared.steps.ReaderStep.{ReaderStep}
 use Rattle.model_core.specs.declared.steps.ReaderStep.TheVariants as reader_step
-use Rattle.model_running.specs.ReadHalf.{handed_at}
+use Rattle.model_running.specs.ReaderPlaces.{handed_at}
 use Rattle.redo_drive.specs.Receiving.{filling_of, handed_by, HasTaken, MarkFits}
 use Rattle.redo_drive.specs.declared.actor.Actor.TheVariants as own
 use Rattle.redo_follow.specs.Handing.{Followed, IsToFollow, StandsFor, TookAnswer}

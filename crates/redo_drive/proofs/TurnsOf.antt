@@ -26,7 +26,7 @@ use Rattle.model_pagecore.specs.DataLaws.{DataLaws}
 use Rattle.model_running.proofs.EachTurn.{log_then, turn_leaves}
 use Rattle.model_running.proofs.Receivers.{receiver_keeps, told_then}
 use Rattle.model_running.proofs.SeatsKeep.{turn_keeps_seats}
-use Rattle.model_running.specs.ReadHalf.{groups_upto, handed}
+use Rattle.model_running.specs.ReaderPlaces.{groups_upto, handed}
 use Rattle.redo_disk.specs.Seen.{Seen}
 use Rattle.redo_drive.proofs.Taken.{number_kept, wrapped}
 use Rattle.redo_drive.proofs.Viewed.{own_at, view_at, views_at}

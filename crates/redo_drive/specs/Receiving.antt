@@ -4,7 +4,7 @@ use Rattle.model_core.specs.Actors as model
 use Rattle.model_core.specs.{archives, filled, Filling, Fills, Given, reader_holds, step_of, took}
 use Rattle.model_core.specs.declared.ops.Answer.{Answer}
 use Rattle.model_core.specs.declared.ops.Step.{Step}
-use Rattle.model_running.specs.ReadHalf.{handed}
+use Rattle.model_running.specs.ReaderPlaces.{handed}
 use Rattle.redo_drive.specs.Views.{view_of}
 use Rattle.redo_drive.specs.declared.actor.Actor.{Actor}
 use Rattle.redo_drive.specs.declared.actor.Actor.TheVariants as own

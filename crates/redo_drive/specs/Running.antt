@@ -7,7 +7,7 @@ use Rattle.model_base.specs.declared.limits.TheConstants.{START_LSN}
 use Rattle.model_core.specs.{archives, Entry, Given, lsn}
 use Rattle.model_core.specs.Actors as model
 use Rattle.model_running.specs.{AreSeated, HasBytes, IsRunning}
-use Rattle.model_running.specs.ReadHalf.{groups_upto}
+use Rattle.model_running.specs.ReaderPlaces.{groups_upto}
 use Rattle.redo_disk.specs.Seen.{Seen}
 use Rattle.redo_drive.specs.Playing.{RunOf, run_data_side, run_log_side}
 use Rattle.redo_drive.specs.Receiving.{follower_of, HasGot, IsSameFollower}

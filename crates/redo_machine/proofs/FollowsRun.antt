@@ -12,7 +12,8 @@ use Rattle.model_core.specs.Setup.{Setup}
 use Rattle.model_core.specs.declared.words.Word.{Word}
 use Rattle.model_core.specs.declared.words.Word.TheVariants as word
 use Rattle.model_running.proofs.FlatWords.{flat_read}
-use Rattle.model_running.specs.ReadHalf.{FollowerHas, groups_upto, HasByKind, ReaderHas, ReadHalf}
+use Rattle.model_running.specs.ReaderPlaces.{FollowerHas, groups_upto, HasByKind, ReaderHas}
+use Rattle.model_running.specs.ReadHalf.{ReadHalf}
 use Rattle.redo_disk.specs.Seen.{Seen}
 use Rattle.redo_drive.proofs.Viewed.{views_at}
 use Rattle.redo_drive.specs.Playing.{RunOf, run_log_side}

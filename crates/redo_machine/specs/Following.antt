@@ -2,7 +2,7 @@
 use Rattle.std.specs.Prelude.{List, slice_index, ℕ, ◌≡◌, ◌≤◌}
 use Rattle.model_core.specs.{Entry, flushed_at, Given, index, IsBound, lsn}
 use Rattle.model_core.specs.declared.words.Word.TheVariants as word
-use Rattle.model_running.specs.ReadHalf.{groups_upto}
+use Rattle.model_running.specs.ReaderPlaces.{groups_upto}
 use Rattle.redo_drive.specs.declared.parts.Parts.{Parts}
 use Rattle.redo_follow.specs.Handing.{StandsFor}
 use Rattle.redo_follow.specs.Following.{Following}

@@ -8,7 +8,8 @@ use Rattle.model_core.specs.Setup.{Setup}
 use Rattle.model_core.specs.{Given, lsn, new_flusher, new_writer, FlusherState, UserState, WriterState}
 use Rattle.model_log.specs.{lsn_of, run_layout, sn_of, stream_of}
 use Rattle.model_logcore.specs.{left_to_reserve, sum_over_actors}
-use Rattle.model_logcore.specs.Start.{flusher_start, writer_start}
+use Rattle.model_core.specs.FlusherRow.{flusher_start}
+use Rattle.model_core.specs.WriterRow.{writer_start}
 use Rattle.model_own.specs.OwnTurn.{all_actors}
 use Rattle.model_own.specs.OwnWrites.{LogWork, OwnUser}
 use Rattle.model_ownrun.proofs.OwnRuns.{alone_starts, own_starts}

@@ -16,7 +16,7 @@ use Rattle.model_ownrun.proofs.Seats.{flusher_seat, flusher_there, writer_seat, 
 use Rattle.model_ownrun.proofs.UserPart.{user_keeps_part}
 use Rattle.model_running.proofs.Following.{bound_upto}
 use Rattle.model_running.proofs.LogCalls.{told_before}
-use Rattle.model_running.specs.ReadHalf.{FollowerHas, groups_upto, HasByKind, ReaderHas}
+use Rattle.model_running.specs.ReaderPlaces.{FollowerHas, groups_upto, HasByKind, ReaderHas}
 use Rattle.redo_disk.specs.Seen.{Seen}
 use Rattle.redo_drive.specs.Playing.{RunOf, run_data_side, run_log_side}
 use Rattle.redo_drive.specs.Running.{groups_of}

@@ -7,7 +7,7 @@ use lib.ListN.{get_elem?}
 use mathlib.Core.Option.{some}
 use Rattle.model_core.specs.{end_of, Entry, Given, Line, line_at, lsn, PageChange, sum_of, Tiles}
 use Rattle.model_core.specs.Setup.{Setup}
-use Rattle.model_running.specs.ReadHalf.{groups_upto}
+use Rattle.model_running.specs.ReaderPlaces.{groups_upto}
 
 -- a number of the groups that start there
 abbrev at : ℕ → (Entry → ℕ) → Entry → ℕ

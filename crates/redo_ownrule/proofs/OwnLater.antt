@@ -3,7 +3,7 @@ use Rattle.std.proofs.Common.{Bool, List, [], ap, append-nil, cond, false, refl,
 use Rattle.model_core.proofs.Later.{checked_keeps, Keeps, later_refl, took_keeps}
 use Rattle.model_core.specs.{FlusherState, flusher_took, Given, heard, old_of, user_took, UserState, writer_took, WriterState}
 use Rattle.model_core.specs.Actors as model
-use Rattle.model_core.specs.Actors.{IsSameActor}
+use Rattle.model_core.specs.Program.{IsSameActor}
 use Rattle.model_core.specs.declared.ops.Answer.{Answer}
 use Rattle.model_core.specs.declared.ops.Answer.TheVariants as answer
 use Rattle.model_core.specs.declared.ops.Step.{Step}

@@ -2,7 +2,7 @@
 use Rattle.std.specs.Prelude.{Bool, List, None, Option, Some, [], false, map, true, suc, zero, ℕ, ◌++◌, ◌+◌, ◌∷◌, ◌≡◌}
 use Rattle.model_core.specs.Actors as model
 use Rattle.model_core.specs.Hands.{HoldsNothing, IsFreeToCheck}
-use Rattle.model_core.specs.Actors.{IsSameActor}
+use Rattle.model_core.specs.Program.{IsSameActor}
 use Rattle.model_own.specs.OwnWrites.{LogWork}
 use Rattle.model_own.specs.ErrandFits.{ErrandFits, has_work}
 use Rattle.redo_drive.specs.Views.{view_of}

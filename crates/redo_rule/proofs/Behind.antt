@@ -6,7 +6,7 @@ use Rattle.model_core.proofs.Asks.{batch_writer}
 use Rattle.model_core.proofs.Later.{later_trans, took_later}
 use Rattle.model_core.specs.{filled, next, took}
 use Rattle.model_core.specs.Actors as model
-use Rattle.model_core.specs.Actors.{IsSameActor}
+use Rattle.model_core.specs.Program.{IsSameActor}
 use Rattle.model_core.specs.declared.ops.Op.TheVariants as op
 use Rattle.model_core.specs.declared.ops.Step.{Step}
 use Rattle.model_running.proofs.SeatsKeep.{filled_later}

@@ -19,7 +19,7 @@ use Rattle.model_core.specs.declared.ops.Step.TheVariants as step
 use Rattle.model_core.specs.declared.steps.UserStep.TheVariants as user_step
 use Rattle.model_core.specs.declared.words.Word.TheVariants as word
 use Rattle.model_running.proofs.Filling.{next_filled}
-use Rattle.model_running.specs.ReadHalf.{ReadsInRun}
+use Rattle.model_running.specs.ReaderPlaces.{ReadsInRun}
 use Rattle.model_core.specs.declared.steps.ReaderStep.TheVariants as reader_step
 use Rattle.redo_disk.specs.Seen.{Seen}
 use Rattle.redo_drive.specs.Lists.{lists_of}

@@ -19,7 +19,7 @@ use Rattle.model_core.specs.declared.steps.ReaderStep.TheVariants as reader_step
 use Rattle.model_core.specs.declared.words.Word.TheVariants as word
 use Rattle.model_running.proofs.Filling.{next_filled}
 use Rattle.model_running.proofs.Following.{one_text}
-use Rattle.model_running.specs.ReadHalf.{handed_at}
+use Rattle.model_running.specs.ReaderPlaces.{handed_at}
 use Rattle.redo_drive.proofs.Filled.{IsNoRead, reader_or_no_read}
 use Rattle.redo_drive.specs.Receiving.{filling_of, handed_by}
 use Rattle.redo_rule.specs.Plays.{block_filling, KeepsTexts}

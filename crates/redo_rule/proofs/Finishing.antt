@@ -10,7 +10,8 @@ use Rattle.model_core.specs.Setup.{Setup}
 use Rattle.model_running.proofs.Archiving.{losing_at}
 use Rattle.model_running.proofs.Finished.{marks_same}
 use Rattle.model_running.specs.{history_of, marks_in, word_marks}
-use Rattle.model_running.specs.ReadHalf.{ReadsInRun, StaysInRun}
+use Rattle.model_running.specs.ReaderPlaces.{ReadsInRun}
+use Rattle.model_running.specs.ReadHalf.{StaysInRun}
 use Rattle.model_report.specs.declared.entry.Entry.{Entry}
 use Rattle.model_report.specs.declared.entry.Marks.{Marks}
 use Rattle.redo_archiver.specs.{append_code}

@@ -19,7 +19,7 @@ use Rattle.model_running.proofs.EachTurn.{actors_filled, both_filled, filled_at,
 use Rattle.model_running.proofs.ReadKeeps.{LogGrows}
 use Rattle.model_running.proofs.RunBlocks.{grown}
 use Rattle.model_running.proofs.Receivers.{told_then}
-use Rattle.model_running.specs.ReadHalf.{HasRunBlock, RunBlockAt}
+use Rattle.model_running.specs.ReaderPlaces.{HasRunBlock, RunBlockAt}
 use Rattle.redo_disk.specs.Seen.{Seen}
 use Rattle.redo_drive.proofs.TurnsOf.{goes_on, groups_grow, runs_then}
 use Rattle.redo_drive.specs.Lists.{lists_of}

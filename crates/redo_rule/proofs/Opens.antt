@@ -14,7 +14,7 @@ use Rattle.model_logcore.proofs.StartEmpty.{start_empty}
 use Rattle.model_logcore.specs.{StartActor}
 use Rattle.model_running.proofs.FlatWords.{flat_read}
 use Rattle.model_running.proofs.Following.{upto_back}
-use Rattle.model_running.specs.ReadHalf.{groups_upto}
+use Rattle.model_running.specs.ReaderPlaces.{groups_upto}
 use Rattle.redo_disk.specs.{Call}
 use Rattle.redo_disk.specs.Seen.{Seen}
 use Rattle.redo_logdev.specs.Part as log

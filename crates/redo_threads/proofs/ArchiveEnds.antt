@@ -12,7 +12,7 @@ use Rattle.model_log.specs.{IsDataLsn, IsRunOf}
 use Rattle.model_log.specs.declared.group.Whole.{Whole}
 use Rattle.model_running.proofs.Groups.{run_of_log}
 use Rattle.model_running.specs.Histories.{AreWholesOf}
-use Rattle.model_running.specs.ReadHalf.{ArchiverHas}
+use Rattle.model_running.specs.ReaderPlaces.{ArchiverHas}
 use Rattle.redo_archive.specs.Part.{Part}
 use Rattle.redo_archiver.specs.{IsFullBlock}
 use Rattle.redo_disk.specs.{Call}

@@ -9,7 +9,7 @@ use Rattle.model_core.specs.Actors as model
 use Rattle.model_core.specs.declared.steps.UserStep.{UserStep}
 use Rattle.model_core.specs.declared.steps.UserStep.TheVariants as user_step
 use Rattle.model_core.specs.Layout.{failed_at}
-use Rattle.model_logcore.specs.LogFits.{UserAt}
+use Rattle.model_logcore.specs.UserLog.{UserAt}
 use Rattle.model_own.specs.OwnWrites.{LogWork}
 use Rattle.model_running.specs.Schedule.{HaveEnded}
 use Rattle.redo_disk.specs.{Call}

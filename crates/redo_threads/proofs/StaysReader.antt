@@ -4,7 +4,7 @@ use Rattle.std.proofs.Common.{inl, inr, ◌==◌, ◌∙◌, ◌∷◌, ◌≡�
 use lib.ListN.{get_elem?}
 use mathlib.Core.Option as maybe
 use Rattle.model_core.specs.Actors as model
-use Rattle.model_core.specs.Actors.{IsSameActor}
+use Rattle.model_core.specs.Program.{IsSameActor}
 use Rattle.model_core.specs.{archives, ReaderState}
 use Rattle.model_own.specs.OwnWrites.{LogWork}
 use Rattle.redo_drive.specs.Receiving.{follower_of, IsSameFollower}

@@ -8,7 +8,7 @@ use Rattle.model_core.specs.States.{UserState}
 use Rattle.model_running.specs.Schedule.{HaveEnded}
 use Rattle.redo_drive.specs.History.{ListsInOrder}
 use Rattle.redo_drive.specs.declared.closed.Closed.{Closed}
-use Rattle.model_core.specs.Actors.{IsSameActor}
+use Rattle.model_core.specs.Program.{IsSameActor}
 
 -- each user has answered all of its lines
 abbrev pub HaveAnswered : List model.Actor → Type 0

@@ -1,6 +1,6 @@
 use Rattle.std.proofs.Common.{None, Option, Some, ap, is_some, length, map, refl, subst, sym, ◌+◌, ◌∙◌, ◌≡◌}
 use Rattle.std.specs.List.{AllZip}
-use Rattle.model_core.specs.Actors.{IsSameActor}
+use Rattle.model_core.specs.Program.{IsSameActor}
 use Rattle.redo_threads.proofs.ReadMarks.{reads_marks}
 use Rattle.model_own.specs.OwnWrites.{LogWork}
 use Rattle.redo_ownrule.proofs.Crews.{crew_later, same_order}
