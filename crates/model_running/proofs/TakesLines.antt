@@ -1,11 +1,11 @@
 -- A user that has done all its lines takes others behind them, in a run that goes on: both halves.
-use Rattle.std.proofs.Common.{Bool, List, [], ap, false, length, subst, sym, true, ℕ, ⊎_elim, inl, inr, ◌+◌, ◌<◌, ◌∙◌, ◌≡◌, ◌≢◌, set}
+use Rattle.std.proofs.Common.{Bool, List, [], ap, false, length, refl, subst, sym, true, ℕ, ⊎_elim, inl, inr, ◌+◌, ◌<◌, ◌∙◌, ◌≡◌, ◌≢◌, set}
 use Rattle.std.specs.Prelude.{get_or}
 use lib.ListN.{get_elem?}
 use native.Mathlib.Decide.{ℕ_discrete}
 use Rattle.model_base.specs.declared.limits.TheConstants.{LSN_LIMIT}
 use Rattle.model_core.proofs.Groups.{changed, changed_else, changed_here}
-use Rattle.model_core.proofs.Lists.{at_set, set_else}
+use Rattle.model_core.proofs.Lists.{at_set, set_at, set_else}
 use Rattle.model_core.specs.{Actor, archives, change_at, Entry, HasHolder, HasLost, holds_tail, IsScripted, IsText, Line, line_at, Listed, PageChange, lsn, ReaderState, SharedWords, UserState}
 use Rattle.model_core.specs.Holding.{user_holds_tail}
 use Rattle.model_core.specs.DataSide.{DataSide}
@@ -21,8 +21,12 @@ use Rattle.model_logcore.specs.{LogGhost, left_to_reserve, sum_over_actors}
 use Rattle.model_pagecore.proofs.TakesLine as paged
 use Rattle.model_pagecore.specs.{HasLatch, PageGhost}
 use Rattle.model_pagecore.specs.Latches.{UserHasLatch}
+use Rattle.model_running.proofs.Seated.{user_seat}
+use Rattle.model_running.proofs.SeatsKeep.{user_keeps}
+use Rattle.model_running.specs.Bounds.{HasBytes}
 use Rattle.model_running.specs.ReadHalf.{ArchiverHas, FollowerAt, FollowerHas, HasByKind, HasMore, HasRunBlock, HaveRunBlocks, IsFlushedTo, ReadFits, ReadHalf, RunBlockAt, StaysInRun}
 use Rattle.model_running.specs.RunningStore.{BothHalves}
+use Rattle.model_running.specs.Seated.{AreSeated}
 use Rattle.model_running.specs.UsersClosed.{UserClosed, UsersClosed}
 use Rattle.model_running.specs.LatchesHeld.{LatchesAreHeld}
 use Rattle.model_core.specs.Actors as actor
@@ -290,3 +294,40 @@ module _ (D : LogSide) (E : DataSide) (c : Setup) (m : SharedWords) (g : LogGhos
     in_run = in_run;
     paged = paged.half_takes_lines E c later.script m g.log h ls d (D.stable p) actors seat u more k.paged at fit.names;
   }
+
+-- the actors keep their seats, in a run into which lines are handed
+pub seats_take_lines : {live : Bool} (c : Setup) (actors : List Actor) → live ≡ true → AreSeated live c actors → (seat : ℕ) (u : UserState)
+    (more : List Line) → get_elem? actors seat ≡ maybe.some (actor.User u)
+    → AreSeated live (logged.grown c u.user more) (set actors seat (actor.User (logged.taking u more)))
+seats_take_lines c actors is seated seat u more at =
+    let same = user_keeps c actors seated seat u (logged.taking u more) at refl in
+    let here = user_seat c (set actors seat (actor.User (logged.taking u more))) same seat (logged.taking u more)
+      (set_at actors seat (actor.User u) (actor.User (logged.taking u more)) at) in
+    record {
+      users = same.users;
+      writer = same.writer;
+      flusher = same.flusher;
+      others = same.others;
+      are = same.are;
+      page_actors = same.page_actors;
+      ascending = same.ascending;
+      have_lines = λ fixed. let z : true ≡ false = sym is ∙ fixed in absurd (cc);
+      all = λ user some. elim (ℕ_discrete user u.user) [
+        | yes own ↦ (seat, logged.taking u more, here, sym own)
+        | no other ↦ same.all user
+            (subst (λ (z : List Line). 0 < length z) (changed_else c.script u.user more user other) some)
+      ];
+      closer = same.closer;
+      cleaner = same.cleaner;
+      checkpointer = same.checkpointer;
+    }
+
+-- each value that a group writes is a byte still
+pub bytes_take_lines : (c : Setup) (user : ℕ) (more : List Line) → HasBytes c → paged.NamePages c more
+    → HasBytes (logged.grown c user more)
+bytes_take_lines c user more h names = record {
+  opened = h.opened;
+  cells = λ v j k i. on
+      (λ z. (get_or (change_at (line_at z j).changes k).cells i (record { at = 0; value = 0 })).value < 256)
+      c.script user more (λ w. h.cells w j k i) (names.are_bytes j k i) v;
+}

@@ -149,7 +149,7 @@ module _ {L D R : Type 0} (log_seen : L → Seen) (data_seen : D → Seen) (stan
   setup = setup_of opened.shape opened.pages opened.start script log_only archive (length followers)
 
   abbrev run : RunOf L D
-  run = record { setup = setup; shape = opened.shape; first_log = opened.log; first_data = opened.store }
+  run = record { setup = setup; live = false; shape = opened.shape; first_log = opened.log; first_data = opened.store }
 
   abbrev log_part : LogSide
   log_part = run_log_side log_seen data_seen run
@@ -248,7 +248,7 @@ module _ {L D R : Type 0} (log_seen : L → Seen) (data_seen : D → Seen) (stan
     its_slots = refl;
     list_pages = ap (λ (lists : Listings). lists.pages) owns.lists;
     running = is_running;
-    seated = subst (AreSeated setup) (sym owns.actors) (are_seated opened.shape opened.pages opened.start script log_only archive (length followers)
+    seated = subst (AreSeated false setup) (sym owns.actors) (are_seated opened.shape opened.pages opened.start script log_only archive (length followers)
         new.few may.lines may.fits.lines);
   }
     where
@@ -298,6 +298,7 @@ module _ {L D R : Type 0} (log_seen : L → Seen) (data_seen : D → Seen) (stan
       first_log = refl;
       first_data = refl;
       start = place;
+      live_is = refl;
       log_only_is = refl;
       first_is = refl;
       last_reader = refl;

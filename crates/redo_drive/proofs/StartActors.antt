@@ -112,10 +112,9 @@ module _ (shape : Shape) (pages : List Content) (start : ℕ) (script : List Scr
         are_bytes = λ i l. group-bytes (group_of shape.space one.0) fit.has_text.each i 0 l;
       })
 
-  start_user : (u : UserState) → u ≡ new_user u.user (run_layout shape).blocks (programs u.user) → 0 < length (programs u.user) → StartUser setup u
-  start_user u is some_lines = record {
+  start_user : (u : UserState) → u ≡ new_user u.user (run_layout shape).blocks (programs u.user) → StartUser setup u
+  start_user u is = record {
     is = is;
-    some_lines = some_lines;
     sound = λ j there. (let line = program_line u.user j there in (line.some_bytes, line.short, line.mode));
     are_bytes = λ j i within. elim (dec_le (length (programs u.user)) j) [
       | yes past ↦ absurd (let none = ap (λ (z : Line). length z.bytes) (get_or_past (programs u.user) j (record { mode = 0; bytes = []; changes = [] }) past) in omega arith)
@@ -132,7 +131,7 @@ module _ (shape : Shape) (pages : List Content) (start : ℕ) (script : List Scr
     user_starts seat a at =
         let u = user_at users seat a at in
         let own : HasSeat (run_layout shape).blocks programs (MAX_USERS + 1) seat u.0 = seated (run_layout shape).blocks programs (MAX_USERS + 1) seat u.0 u.2 in
-        subst (IsHere seat) u.1 (record { start = (own.before, start_user u.0 own.is own.some_lines); with_pages = tt })
+        subst (IsHere seat) u.1 (record { start = (own.before, start_user u.0 own.is); with_pages = tt })
 
     -- after the users, the writer and the flusher
     pages_start : (b : Bool) → b ≡ log_only → (i : ℕ) (a : Actor) → get_elem? (page_actors shape start b archive followers) i ≡ some a → IsHere (length users + (2 + i)) a
@@ -234,7 +233,7 @@ module _ (shape : Shape) (pages : List Content) (start : ℕ) (script : List Scr
   )
 
   -- the users that have lines are seated, and the other actors after them
-  pub are_seated : AreSeated setup (seated_actors shape script start log_only archive followers)
+  pub are_seated : AreSeated false setup (seated_actors shape script start log_only archive followers)
   are_seated = record {
     users = users;
     writer = new_writer (run_layout shape).blocks start;
@@ -244,7 +243,7 @@ module _ (shape : Shape) (pages : List Content) (start : ℕ) (script : List Scr
         (readers_of start archive followers);
     page_actors = are_page_actors log_only;
     ascending = ascend (run_layout shape).blocks programs (MAX_USERS + 1);
-    have_lines = λ i u at. (seated (run_layout shape).blocks programs (MAX_USERS + 1) i u at).some_lines;
+    have_lines = λ _ i u at. (seated (run_layout shape).blocks programs (MAX_USERS + 1) i u at).some_lines;
     all = λ user some_lines.
         (let count = (of_script shape pages start script log_only archive followers few).count user in
         let range = numbered shape script lines fits user (omega arith) in

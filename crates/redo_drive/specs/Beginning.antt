@@ -14,13 +14,14 @@ use Rattle.redo_drive.specs.declared.parts.Parts.{Parts}
 use Rattle.redo_drive.specs.declared.seating.TheConstants.{FIRST_FOLLOWER}
 use Rattle.redo_store.specs.declared.opened.Opened.{Opened}
 
--- The run is that of this script on this store, with an archiver or without, and with so many followers: with its sizes, its
--- pages and both its parts, from its start on.
-pub record IsRunWith {L D : Type 0} (opened : Opened L D) (script : List ScriptLine) (log_only archive : Bool) (followers : ℕ) (run : RunOf L D) : Type 0 where
+-- The run is that of this script on this store, a live one or not, with an archiver or without, and with so many followers:
+-- with its sizes, its pages and both its parts, from its start on.
+pub record IsRunWith {L D : Type 0} (opened : Opened L D) (script : List ScriptLine) (live log_only archive : Bool) (followers : ℕ) (run : RunOf L D) : Type 0 where
   pub shape : run.shape ≡ opened.shape
   pub first_log : run.first_log ≡ opened.log
   pub first_data : run.first_data ≡ opened.store
   pub start : lsn run.setup.base ≡ opened.start
+  pub live_is : run.live ≡ live
   pub log_only_is : run.setup.log_only ≡ log_only
   pub first_is : run.setup.first_reader ≡ first_reader archive
   pub last_reader : run.setup.last_reader ≡ FIRST_FOLLOWER + followers

@@ -33,7 +33,7 @@ pub record IsAtStart {L D R : Type 0} (log_seen : L → Seen) (data_seen : D →
 pub record BeginsWith {L D R : Type 0} (log_seen : L → Seen) (data_seen : D → Seen) (stands_for : R → List Given → Type 0) (opened : Opened L D)
     (script : List ScriptLine) (log_only archive : Bool) (new_followers : List (Following R)) (start : Beginning L D R) : Type 0 where
   pub run : RunOf L D
-  pub is_run : IsRunWith opened script log_only archive (length new_followers) run
+  pub is_run : IsRunWith opened script false log_only archive (length new_followers) run
   pub at_start : IsAtStart log_seen data_seen run start
   pub stands : StandsWith opened script archive (length new_followers) run start.parts (views_of start.actors.items)
   pub from : RunsFromWith log_seen data_seen stands_for run archive start.actors.items start.parts start.actors.items

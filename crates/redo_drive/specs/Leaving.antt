@@ -1,5 +1,5 @@
 -- What a run leaves, however its Ops were interleaved: from this the closed run follows, by turns and in threads alike.
-use Rattle.std.specs.Prelude.{Bool, IfSome, List, cond, slice_index, ℕ, ◌≡◌}
+use Rattle.std.specs.Prelude.{Bool, IfSome, List, cond, false, slice_index, ℕ, ◌≡◌}
 use Rattle.model_core.specs.{Given, HasLost}
 use Rattle.model_core.specs.Layout.{failed_at}
 use Rattle.model_running.specs.{history_of, marks_in, word_marks}
@@ -26,7 +26,7 @@ pub record LeavesWith {L D R : Type 0} (log_seen : L → Seen) (log_gives : L �
     (stands : R → List Given → Type 0) (opened : Opened L D) (script : List ScriptLine) (log_only archive : Bool)
     (followers : ℕ) (starts actors : List (Actor R)) (closed : Closed L D) : Type 0 where
   pub run : RunOf L D
-  pub is_run : IsRunWith opened script log_only archive followers run
+  pub is_run : IsRunWith opened script false log_only archive followers run
   pub begun : (reading : Reading) → HasReading reading opened
       → IfSome (log_seen opened.log.dev).tells (λ log_disk. IfSome (data_seen opened.store.dev).tells (λ data_disk.
       IsStart reading script log_disk data_disk → HaveBegun log_seen data_seen run))

@@ -1,5 +1,5 @@
 -- A store that its players share, as its run begins, and with all its seats given.
-use Rattle.std.specs.Prelude.{Bool, IfSome, IsSome, List, Option, Some, [], is_some, length, map, true, vec_capacity, ℕ, ◌+◌, ◌≡◌, ◌≤◌}
+use Rattle.std.specs.Prelude.{Bool, IfSome, IsSome, List, None, Option, Some, [], is_some, length, map, true, vec_capacity, ℕ, ◌+◌, ◌≡◌, ◌≤◌}
 use lib.ListN.{get_elem?}
 use mathlib.Core.Option.{some}
 use Rattle.atomic_table.specs.Seated.{TableId}
@@ -62,8 +62,9 @@ module _ {L D R : Type 0} where
     pub each : (i : ℕ) (seat : Seat (Slot L D) (View L D)) (p : Player R) → get_elem? seats i ≡ some seat
         → get_elem? players i ≡ some p → IsPlayerSeat table seat p × (number_of seat.me.0 ≡ place own players i)
 
-  -- the run may begin, and there is room for its history and for the actors that it leaves
+  -- the run is that of its script and may begin, and there is room for its history and for the actors that it leaves
   pub record HasRoomToBegin (shared : Shared L D R) : Type 0 where
+    pub fixed : shared.board.shared.key.live ≡ None
     pub may : MayBegin (opened_of shared) (shared_script shared) shared.board.shared.key.log_only
     pub no_entries : shared.entries.items ≡ []
     pub room : length (shared_script shared) ≤ vec_capacity shared.entries

@@ -38,6 +38,7 @@ use Rattle.redo_rule.specs.Closing.{done_with, IsOwedRun, LeavesParts, TellsLoss
 use Rattle.redo_rule.specs.Ending.{RunReaches}
 use Rattle.redo_rule.specs.Slots.{IsData, IsLog, IsPages}
 use Rattle.redo_rule.specs.declared.closing.Left.{Left}
+use Rattle.redo_rule.proofs.Told.{fixed_run}
 use Rattle.redo_rule.specs.declared.law.About.{About}
 use Rattle.model_own.specs.OwnWrites.{LogWork}
 use Rattle.redo_rule.specs.OwnSide.{desk_with, work_of}
@@ -183,12 +184,13 @@ module _ {L D : Type 0} (log_seen : L → Seen) (log_gives : L → Call → L �
     its_marks = P.marks ∙ marks_same P.last.words.words P.runs.running.shared P.runs.running.flat_is
 
     -- there is room for the history
-    pub has_room : (room : ℕ) → length about.script.value ≤ room → length (all_listed left.marks actors) ≤ room
-    has_room room enough =
+    pub has_room : about.live ≡ None → (room : ℕ) → length about.script.value ≤ room
+        → length (all_listed left.marks actors) ≤ room
+    has_room fixed room enough =
         let R = P.runs in
         let many = as_many log_seen data_seen P.run P.last actors R in
         let same : length (all_listed left.marks actors) ≡ length (all_listed (word_marks R.running.shared) actors) = ap (λ (z : Marks). length (all_listed z actors)) its_marks in
-        let within = log_within_script P.run.setup about.script.value about.opened.value.shape R.running.shared.sn R.running.log_ghost.log R.running.log_ghost.place R.running.both.logged.global.tiled P.is_about.is_run.of_script in
+        let within = log_within_script P.run.setup about.script.value about.opened.value.shape R.running.shared.sn R.running.log_ghost.log R.running.log_ghost.place R.running.both.logged.global.tiled (fixed_run log_seen data_seen about P.run fixed P.is_about).of_script in
         omega arith
 
     pub its_history : (history : List Entry) → ListsInOrder left.marks actors history → ◌≡◌ {A = List Entry} history (history_of P.runs.running.log_ghost.answered (word_marks P.runs.running.shared) P.runs.running.log_ghost.log)
@@ -203,7 +205,7 @@ module _ {L D : Type 0} (log_seen : L → Seen) (log_gives : L → Call → L �
     module _ (closed : Closed L D) (log_is : closed.log ≡ left.log) (store_is : closed.store ≡ left.store)
         (marks_is : ◌≡◌ {A = Marks} closed.marks left.marks) (code_is : closed.code ≡ left.code)
         (listed : ListsInOrder left.marks (views_of actors) closed.history)
-        (loss : TellsLoss about.archive (views_of actors) closed.lost) where
+        (loss : TellsLoss about.archive (views_of actors) closed.lost) (fixed : about.live ≡ None) where
       leaves_from : (stands : R → List Given → Type 0) (starts : List (Actor R)) → length actors ≡ length starts
           → ((n : ℕ) (a b : Actor R) → get_elem? starts n ≡ maybe.some a → get_elem? actors n ≡ maybe.some b →
           IsSameFollower (follower_of a) (follower_of b))
@@ -214,7 +216,7 @@ module _ {L D : Type 0} (log_seen : L → Seen) (log_gives : L → Call → L �
           about.log_only about.archive about.followers starts actors closed
       leaves_from stands starts count same got = record {
         run = P.run;
-        is_run = P.is_about.is_run;
+        is_run = fixed_run log_seen data_seen about P.run fixed P.is_about;
         begun = P.is_about.begun;
         last = P.last;
         from = record { runs = P.runs; count = count; same = same; got = got };

@@ -53,7 +53,7 @@ use Rattle.redo_rule.proofs.OwnStays.{work_stays, worker_holds}
 use Rattle.redo_rule.specs.Handing.{appended_by, HaveHandedOn, HaveLoaded, with_more}
 use Rattle.redo_rule.specs.OwnSide.{Beside, desk_with, HasItsWork, OwnSide, SitsAs}
 use Rattle.redo_rule.specs.Plays.{behind, MayGo, Shown, Stepped, view_behind}
-use Rattle.redo_rule.specs.Ruled.{IsSlotHeld, Knows, Ruled, slot_content}
+use Rattle.redo_rule.specs.Ruled.{IsRunAbout, IsSlotHeld, Knows, Ruled, slot_content}
 use Rattle.redo_rule.specs.declared.law.About.{About}
 use Rattle.redo_rule.specs.declared.law.Desk.{Desk}
 use Rattle.redo_rule.specs.declared.law.Errand.{Errand}
@@ -231,15 +231,17 @@ module _ {L D : Type 0} (log_seen : L → Seen) (log_gives : L → Call → L �
   pub record Leaves (then : Numbered) (new : Parts L D) (beside : Beside) (after : List model.Actor)
       (heard : ℕ → Heard) : Type 0 where
     pub same : HasSamePages R.parts new
-    pub runs : RunsWith log_seen data_seen R.run about.archive new after
+    pub run : RunOf L D
+    pub is_about : IsRunAbout log_seen data_seen about run
+    pub runs : RunsWith log_seen data_seen run about.archive new after
     pub own_is : is_some beside.own ≡ is_some R.beside.own
-    pub own : HasItsWork (run_log_side log_seen data_seen R.run) new.log beside.own after
-    pub hears : HaveHandedOn (run_log_side log_seen data_seen R.run) R.run.setup.base new.log heard after
+    pub own : HasItsWork (run_log_side log_seen data_seen run) new.log beside.own after
+    pub hears : HaveHandedOn (run_log_side log_seen data_seen run) run.setup.base new.log heard after
         runs.running.log_ghost.log
     pub loaded : HaveLoaded new.words.words after
     pub count : length after ≡ length R.actors
     pub told : (n : ℕ) (c : model.Actor) (code : ℕ) → get_elem? after n ≡ maybe.some c → GivesFailed c code
-        → (run_log_side log_seen data_seen R.run).Cause new.log code
+        → (run_log_side log_seen data_seen run).Cause new.log code
     pub number : then.number ≡ x.number
     pub here : get_elem? after x.number ≡ maybe.some then.actor
     pub its_heard : ◌≡◌ {A = Heard} (heard x.number) then.heard
@@ -321,8 +323,8 @@ module _ {L D : Type 0} (log_seen : L → Seen) (log_gives : L → Call → L �
           → ((k : ℕ) → k < 5 → slice_index new.words.words (7 + k) ≢ 0 → IsSlotHeld after k)
           → Ruled log_seen log_gives data_seen data_gives about (record { words = new.words.words; homes = hs; views = slice_set s.views id w })
       kept_then hs are log_calls data_calls shape long home data_home taken = record {
-        run = R.run;
-        is_about = R.is_about;
+        run = left.run;
+        is_about = left.is_about;
         parts = new;
         beside = beside;
         actors = after;
@@ -500,6 +502,8 @@ module _ {L D : Type 0} (log_seen : L → Seen) (log_gives : L → Call → L �
         leaves : Leaves (behind x f r) new beside after heard
         leaves = record {
           same = same;
+          run = R.run;
+          is_about = R.is_about;
           runs = runs_behind;
           own_is = ap (λ (z : Option OwnSide). is_some z) same_own;
           own = own_behind;

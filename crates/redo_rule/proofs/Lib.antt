@@ -14,6 +14,8 @@ pub mod Filled
 pub mod Finishing
 pub mod Gathered
 pub mod GivenBack
+pub mod GrownScript
+pub mod HandedIn
 pub mod Hearing
 pub mod Holders
 pub mod Kept

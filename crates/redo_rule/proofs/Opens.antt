@@ -38,10 +38,11 @@ use Rattle.redo_rule.proofs.Seated.{not_working}
 use Rattle.redo_drive.specs.Playing.{run_log_side}
 use Rattle.redo_rule.specs.Handing.{nothing}
 use Rattle.redo_rule.specs.OwnSide.{Beside, desk_with, HasItsWork, HasNoWork, OwnSide, SitsAs}
-use Rattle.redo_rule.specs.Ruled.{first_view, Knows, none_heard, Ruled, slot_content, starts_about}
+use Rattle.redo_rule.specs.Ruled.{first_view, Knows, none_heard, Ruled, slot_content, starts_about, starts_with}
 use Rattle.redo_rule.specs.declared.law.About.{About}
 use Rattle.redo_rule.specs.declared.law.Heard.{Heard}
 use Rattle.redo_rule.specs.declared.law.Keeping.{Keeping}
+use Rattle.redo_rule.specs.declared.law.Live.{Live}
 use Rattle.redo_rule.specs.declared.law.Numbered.{Numbered}
 use Rattle.redo_rule.specs.declared.law.Slot.{Slot}
 use Rattle.redo_rule.specs.declared.law.Slot.TheVariants as slot
@@ -112,6 +113,7 @@ AllStand own actors seats = (i : ℕ) (x : Numbered) → get_elem? seats i ≡ m
 
 module _ {L D R : Type 0} (log_seen : L → Seen) (data_seen : D → Seen) (stands : R → List Given → Type 0) (about :
     About L D)
+    (fixed : about.live ≡ None)
     (followers : List (Following R)) (many : about.followers ≡ length followers) (start : Beginning L D R)
     (B : BeginsWith log_seen data_seen stands about.opened.value about.script.value about.log_only about.archive followers
     start) where
@@ -125,6 +127,7 @@ module _ {L D R : Type 0} (log_seen : L → Seen) (data_seen : D → Seen) (stan
       about.archive (length followers)) B.is_run.log_only_is
       ∙ ap (seated_actors about.opened.value.shape about.script.value about.opened.value.start about.log_only
       about.archive) (sym many)
+      ∙ ap (starts_with about) (sym fixed)
 
   begun : (n : ℕ) (a : model.Actor) → get_elem? actors n ≡ maybe.some a → StartActor B.run.setup B.at_start.seat_of
       B.at_start.writer n a
@@ -135,8 +138,8 @@ module _ {L D R : Type 0} (log_seen : L → Seen) (data_seen : D → Seen) (stan
 
 module _ {L D R : Type 0} (log_seen : L → Seen) (log_gives : L → Call → L → Type 0) (data_seen : D → Seen) (data_gives
     : D → Call → D → Type 0)
-    (stands : R → List Given → Type 0) (about : About L D) (followers : List (Following R)) (many : about.followers ≡
-    length followers)
+    (stands : R → List Given → Type 0) (about : About L D) (fixed : about.live ≡ None) (followers : List (Following R))
+    (many : about.followers ≡ length followers)
     (start : Beginning L D R) (B : BeginsWith log_seen data_seen stands about.opened.value about.script.value
     about.log_only about.archive followers start)
     (lists_are : AreLists start.parts.lists) (beside : Beside) (own_is : about.own_writes ≡ is_some beside.own)
@@ -147,7 +150,7 @@ module _ {L D R : Type 0} (log_seen : L → Seen) (log_gives : L → Call → L 
   all = views_of start.actors.items
 
   abbrev fresh_one : (n : ℕ) (a : model.Actor) → get_elem? all n ≡ maybe.some a → HoldsNothing a
-  fresh_one = fresh log_seen data_seen stands about followers many start B
+  fresh_one = fresh log_seen data_seen stands about fixed followers many start B
 
   abbrev Known : ℕ → View L D → Type 0
   Known j v = Knows about start.parts beside all none_heard (λ _. 0) 0 false j v
@@ -180,8 +183,13 @@ module _ {L D R : Type 0} (log_seen : L → Seen) (log_gives : L → Call → L 
   opens_one = record {
     run = B.run;
     is_about = record {
-      is_run = subst (λ (n : ℕ). IsRunWith about.opened.value about.script.value about.log_only about.archive n B.run)
-          (sym many) B.is_run;
+      script = about.script.value;
+      fixed = λ _. refl;
+      is_run = subst (λ (b : Bool). IsRunWith about.opened.value about.script.value b about.log_only about.archive
+          about.followers B.run) (sym (ap (λ (o : Option Live). is_some o) fixed))
+          (subst (λ (n : ℕ). IsRunWith about.opened.value about.script.value false about.log_only about.archive n B.run)
+          (sym many) B.is_run);
+      room = λ live is. (let none : Some live ≡ None = sym is ∙ fixed in absurd (cc));
       begun = B.begun;
     };
     parts = start.parts;
@@ -201,7 +209,7 @@ module _ {L D R : Type 0} (log_seen : L → Seen) (log_gives : L → Call → L 
     };
     loaded = λ n r at. none_loaded B.run.setup B.at_start.seat_of B.at_start.writer n
         (slice_index start.parts.words.words flushed_at) r (B.at_start.starts.each n (model.Reader r) at);
-    count = ap length (are log_seen data_seen stands about followers many start B);
+    count = ap length (are log_seen data_seen stands about fixed followers many start B);
     log_calls = subst (λ (z : log.Part L). CallsOn log_gives about.opened.value.log.dev about.opened.value.log.failed z.dev z.failed) (sym B.log) (not_called log_gives about.opened.value.log.dev about.opened.value.log.failed);
     data_calls = subst (λ (z : store.Part D). CallsOn data_gives about.opened.value.store.dev about.opened.value.store.failed z.dev z.failed) (sym B.data_part) (not_called data_gives about.opened.value.store.dev about.opened.value.store.failed);
     log_shape = ap (λ (z : log.Part L). z.shape) B.log;

@@ -148,7 +148,7 @@ play_crew-crew-requires-clause-archive g c κs within = by c.args.archive refl
     by (Some part) is = (
       c.args.shared.board.shared.key,
       part,
-      may_be g.A.Sectors.seen c.args.shared c.args.players.items c.requires.readers g.A.Sectors.gives part
+      may_be g.A.Sectors.seen c.args.shared c.args.players.items c.requires.readers c.requires.unseated.ready.fixed g.A.Sectors.gives part
           (subst (λ a. IfSome a (IsNewArchive g.A.Sectors.seen (opened_of c.args.shared) (shared_script c.args.shared))) is
           c.requires.archive)
           c.requires.unseated.ready.may x refl
@@ -178,7 +178,7 @@ finish-closed-requires-clause-lost g c =
         (sym (c.requires.is_archived ∙ ap is_some is))
         (c.lost_by-lost.ensures ∙ ap (λ (a : Option (Part g.row.A.Denot)). lost_of a) gone)
     by (Some part) is =
-        tells g.A.Sectors.seen c.args.shared c.args.players.items c.requires.readers g.F.Receiver.stands_for
+        tells g.A.Sectors.seen c.args.shared c.args.players.items c.requires.readers c.requires.unseated.ready.fixed g.F.Receiver.stands_for
         c.ring.result.now.table_id x y refl (c.seats-seats.ensures.seats.count ∙ ap length c.as_slice-3.ensures.value)
         c.play_crew-crew.ensures.goes_on
         (subst (λ b. AreFresh (Some b.shared.key) c.seats-seats.result.items) c.seats-seats.ensures.same
@@ -216,7 +216,7 @@ returns-clause-archived g c = by c.args.archive refl
         let end = c.finish-closed.ensures.actors in
         let works = end.works ∙ ap (λ b. b.shared.key.own_writes) c.seats-seats.ensures.same in
         subst (λ a. Have a c.play_crew-crew.result.1) (sym is)
-        (leaves_archive g.A.Sectors.seen c.args.shared c.args.players.items c.requires.readers g.F.Receiver.stands_for
+        (leaves_archive g.A.Sectors.seen c.args.shared c.args.players.items c.requires.readers c.requires.unseated.ready.fixed g.F.Receiver.stands_for
         c.ring.result.now.table_id x y refl (c.seats-seats.ensures.seats.count ∙ ap length c.as_slice-3.ensures.value)
         c.play_crew-crew.ensures.goes_on
         (subst (λ b. AreFresh (Some b.shared.key) c.seats-seats.result.items) c.seats-seats.ensures.same
