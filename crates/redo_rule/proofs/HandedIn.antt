@@ -1,6 +1,7 @@
 -- A line that is handed in keeps the rule.
 use Rattle.std.proofs.Common.{Bool, is_some, List, None, Option, Some, [], ap, arith, drop, false, length, length-append, length-set, refl, set, subst, suc, sym, true, zero, ℕ, ⊎_elim, ◌*◌, ◌++◌, ◌+◌, ◌<◌, ◌∙◌, ◌∷◌, ◌≡◌, ◌≢◌, ◌≤◌}
 use Rattle.std.proofs.Math.ListN.{get_or-append}
+use Rattle.std.proofs.Math.Nat.{suc-mul}
 use Rattle.std.proofs.Math.Seq.{get_or-append_seam}
 use Rattle.std.proofs.lemmas.List.{get_or_past}
 use Rattle.std.proofs.lemmas.Option.{same_Some}
@@ -87,12 +88,9 @@ sum_at_most : (f : Actor → ℕ) (most : ℕ) (actors : List Actor)
     → ((i : ℕ) (a : Actor) → get_elem? actors i ≡ maybe.some a → f a ≤ most)
     → sum_over_actors f actors ≤ length actors * most
 sum_at_most f most [] each = omega arith
-sum_at_most f most (a ∷ as) each =
-    let here = each 0 a refl in let rest = sum_at_most f most as (λ i b at. each (suc i) b at) in
-    let n : (length as + 1) * most ≡ length as * most + most = by (length as) most in omega arith
-  where
-    by : (n m : ℕ) → (n + 1) * m ≡ n * m + m
-    by n m = omega arith
+sum_at_most f most (a ∷ others) each =
+    let here = each 0 a refl in let less = sum_at_most f most others (λ i b at. each (suc i) b at) in
+    omega (arith, suc-mul (length others) most)
 
 told_still : {A : Type 0} (P Q : A → Type 0) (o : Option A) → ((x : A) → P x → Q x) → IfSome o P → IfSome o Q
 told_still P Q None f p = tt
@@ -162,7 +160,7 @@ no_tail u line link_buffer.Written = refl
 no_tail u line link_buffer.Closed = refl
 
 is_free : (u : UserState) (line : Line) → IsFreeToCheck (model.User (with_line u line))
-is_free u line _ = record { no_slot = refl; no_tail = no_tail u line }
+is_free u line = λ _. record { no_slot = refl; no_tail = no_tail u line }
 
 user_or : UserState → Actor → UserState
 user_or u (model.User v) = v
@@ -284,9 +282,8 @@ module _ {L D : Type 0} (log_seen : L → Seen) (log_gives : L → Call → L �
       let none = none_left u.lines (length u.starts) k in
       let last = last_left u.lines line (length u.starts) k in
       let snoc = lengths_snoc u.lines line in
-      let most = sum_at_most all_bytes live.quota after bytes_after in
-      let many : length after * live.quota ≡ length (starts_about about) * live.quota =
-        ap (λ (n : ℕ). n * live.quota) (length-set R.actors x.number b ∙ R.count) in
+      let most = subst (λ (n : ℕ). sum_over_actors all_bytes after ≤ n * live.quota)
+        (length-set R.actors x.number b ∙ R.count) (sum_at_most all_bytes live.quota after bytes_after) in
       let low = lsn_le (R.runs.running.shared.sn + sum_over_actors left_to_reserve after)
         (c.base + length (starts_about about) * live.quota) (omega arith) in
       let short = before.short in omega arith
@@ -321,6 +318,24 @@ module _ {L D : Type 0} (log_seen : L → Seen) (log_gives : L → Call → L �
   begun : HaveBegun log_seen data_seen R.run → HaveBegun log_seen data_seen run
   begun h = record { log = h.log; data_part = h.data_part }
 
+  -- the devices of a run held what was opened, where they tell
+  abbrev Held : RunOf L D → Reading → Type 0
+  Held r reading = IfSome (log_seen about.opened.value.log.dev).tells (λ log_disk.
+      IfSome (data_seen about.opened.value.store.dev).tells (λ data_disk.
+      IsStart reading about.script.value log_disk data_disk → HaveBegun log_seen data_seen r))
+
+  held_still : (reading : Reading) → Held R.run reading → Held run reading
+  held_still reading held = told_still
+      (λ log_disk. IfSome (data_seen about.opened.value.store.dev).tells (λ data_disk.
+      IsStart reading about.script.value log_disk data_disk → HaveBegun log_seen data_seen R.run))
+      (λ log_disk. IfSome (data_seen about.opened.value.store.dev).tells (λ data_disk.
+      IsStart reading about.script.value log_disk data_disk → HaveBegun log_seen data_seen run))
+      (log_seen about.opened.value.log.dev).tells
+      (λ log_disk one_held. told_still
+      (λ data_disk. IsStart reading about.script.value log_disk data_disk → HaveBegun log_seen data_seen R.run)
+      (λ data_disk. IsStart reading about.script.value log_disk data_disk → HaveBegun log_seen data_seen run)
+      (data_seen about.opened.value.store.dev).tells (λ data_disk so started. begun (so started)) one_held) held
+
   is_about : IsRunAbout log_seen data_seen about run
   is_about = let A = R.is_about in let Q = A.is_run in record {
     script = script;
@@ -335,7 +350,12 @@ module _ {L D : Type 0} (log_seen : L → Seen) (log_gives : L → Call → L �
       first_is = Q.first_is;
       last_reader = Q.last_reader;
       of_script = its_script;
-      its_pages = record { count = Q.its_pages.count; page_size = Q.its_pages.page_size; each = Q.its_pages.each };
+      its_pages = record {
+        count = Q.its_pages.count;
+        page_size = Q.its_pages.page_size;
+        each = λ p page there. let o = Q.its_pages.each p page there in
+            record { there = o.there; content = o.content; whole = o.whole };
+      };
     };
     room = λ other told. subst (λ (z : Live). HasRoom z shape script (length (starts_about about)) later)
         (same_Some live other (sym is_live ∙ told))
@@ -345,9 +365,7 @@ module _ {L D : Type 0} (log_seen : L → Seen) (log_gives : L → Call → L �
           within = within;
           short = before.short;
         });
-    begun = λ reading has. told_still _ _ (log_seen about.opened.value.log.dev).tells
-        (λ log_disk t. told_still _ _ (data_seen about.opened.value.store.dev).tells
-        (λ data_disk held started. begun (held started)) t) (A.begun reading has);
+    begun = λ reading has. held_still reading (A.begun reading has);
   }
 
   abbrev then : Numbered

@@ -1,6 +1,5 @@
 // A line is handed in to a user, in a run that goes on.
-ghost use Rattle.std.specs.Prelude.{◌≡◌};
-ghost use Rattle.model_core.specs.{Line};
+ghost use Rattle.std.specs.Prelude.{[], ◌≡◌};
 ghost use Rattle.redo_rule.specs.HandIn.{MayHandIn, handed_in, line_about};
 
 use crate::law::{Ring, Seat, Slot, View};
@@ -10,15 +9,13 @@ use redo_disk::Sectors;
 use std::marker::{Brand, PhantomData};
 
 /// Which line it is, as its user runs it. Each call picks it.
-trait Handing {
+pub trait Handing {
     ghost use Rattle.model_core.specs.{Line};
 
     ghost line: { Line };
 }
 
 impl Handing for Brand {
-    ghost use Rattle.std.specs.Prelude.{[]};
-
     ghost line = { record { mode = 0; bytes = []; changes = [] } };
 }
 
