@@ -302,7 +302,7 @@ pub seats_take_lines : {live : Bool} (c : Setup) (actors : List Actor) → live 
 seats_take_lines c actors is seated seat u more at =
     let same = user_keeps c actors seated seat u (logged.taking u more) at refl in
     let here = user_seat c (set actors seat (actor.User (logged.taking u more))) same seat (logged.taking u more)
-      (set_at actors seat (actor.User u) (actor.User (logged.taking u more)) at) in
+    (set_at actors seat (actor.User u) (actor.User (logged.taking u more)) at) in
     record {
       users = same.users;
       writer = same.writer;

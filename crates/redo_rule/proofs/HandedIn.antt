@@ -275,7 +275,7 @@ module _ {L D : Type 0} (log_seen : L → Seen) (log_gives : L → Call → L �
   has_room : lsn (R.runs.running.shared.sn + sum_over_actors left_to_reserve after) < LSN_LIMIT
   has_room =
       let total = lines_total (run_log_side log_seen data_seen R.run) c R.runs.running.shared R.runs.running.log_ghost
-        R.parts.log R.actors R.runs.running.both.logged in
+      R.parts.log R.actors R.runs.running.both.logged in
       let lefts = total_set left_to_reserve R.actors x.number (model.User u) b here in
       let alls = total_set all_bytes R.actors x.number (model.User u) b here in
       let k : length u.starts ≡ length u.lines = rests.0 ∙ rests.1 in
@@ -283,9 +283,9 @@ module _ {L D : Type 0} (log_seen : L → Seen) (log_gives : L → Call → L �
       let last = last_left u.lines line (length u.starts) k in
       let snoc = lengths_snoc u.lines line in
       let most = subst (λ (n : ℕ). sum_over_actors all_bytes after ≤ n * live.quota)
-        (length-set R.actors x.number b ∙ R.count) (sum_at_most all_bytes live.quota after bytes_after) in
+      (length-set R.actors x.number b ∙ R.count) (sum_at_most all_bytes live.quota after bytes_after) in
       let low = lsn_le (R.runs.running.shared.sn + sum_over_actors left_to_reserve after)
-        (c.base + length (starts_about about) * live.quota) (omega arith) in
+      (c.base + length (starts_about about) * live.quota) (omega arith) in
       let short = before.short in omega arith
 
   its_live : R.run.live ≡ true
@@ -402,24 +402,24 @@ module _ {L D : Type 0} (log_seen : L → Seen) (log_gives : L → Call → L �
   left : kept.Leaves log_seen log_gives data_seen data_gives about s R id v x sits at then R.parts R.beside after R.heard
   left = let known = kept.known log_seen log_gives data_seen data_gives about s R id v x sits at in
       let first = kept.first log_seen log_gives data_seen data_gives about s R id v x sits at in record {
-    same = record { words = refl; lists = refl };
-    run = run;
-    is_about = is_about;
-    runs = runs;
-    own_is = refl;
-    own = work_beside (run_log_side log_seen data_seen R.run) R.parts.log R.beside.own R.actors x.number b
-        (subst (λ (e : Option Errand). SitsAs R.beside.own e x.number) plain (known.errand 0 x first)) R.own;
-    hears = hears;
-    loaded = loaded;
-    count = length-set R.actors x.number b;
-    told = told;
-    number = refl;
-    here = set_at R.actors x.number (model.User u) b here;
-    its_heard = (known.mine 0 x first).2;
-    free = is_free u line;
-    sits = known.errand 0 x first;
-    others = λ n e far still. (set_else R.actors x.number n b far, refl, still);
-  }
+        same = record { words = refl; lists = refl };
+        run = run;
+        is_about = is_about;
+        runs = runs;
+        own_is = refl;
+        own = work_beside (run_log_side log_seen data_seen R.run) R.parts.log R.beside.own R.actors x.number b
+            (subst (λ (e : Option Errand). SitsAs R.beside.own e x.number) plain (known.errand 0 x first)) R.own;
+        hears = hears;
+        loaded = loaded;
+        count = length-set R.actors x.number b;
+        told = told;
+        number = refl;
+        here = set_at R.actors x.number (model.User u) b here;
+        its_heard = (known.mine 0 x first).2;
+        free = is_free u line;
+        sits = known.errand 0 x first;
+        others = λ n e far still. (set_else R.actors x.number n b far, refl, still);
+      }
 
   -- the user held no slot
   no_hand : hand (model.User u) ≡ None
@@ -430,7 +430,7 @@ module _ {L D : Type 0} (log_seen : L → Seen) (log_gives : L → Call → L �
       let t = R.taken k low (λ z. busy (ap (λ (ws : List ℕ). slice_index ws (7 + k)) R.words_are ∙ z)) in
       elim (ℕ_discrete t.0 x.number) [
         | yes same ↦ (let own_hand = ap hand (maybe.some-injective (model.User u) t.1
-              (sym here ∙ ap (get_elem? R.actors) (sym same) ∙ t.2)) in
+            (sym here ∙ ap (get_elem? R.actors) (sym same) ∙ t.2)) in
             let z : None ≡ Some k = sym no_hand ∙ own_hand ∙ t.3 in absurd (cc))
         | no far ↦ (t.0, t.1, set_else R.actors x.number t.0 b far ∙ t.2, t.3)
       ]

@@ -298,7 +298,7 @@ module _ {L D A : Type 0} {gives : A → Call → A → Type 0} (log_seen : L �
         record {
           told = same_about ∙ S.told;
           fixed = S.fixed;
-      may = S.may;
+          may = S.may;
           same = still_same;
           flushed = S.flushed;
           pace = subst (λ (z : ReaderState). KeepsPace seen (end_about about) S.flushed z new) x_so
