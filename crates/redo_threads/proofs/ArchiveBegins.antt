@@ -166,7 +166,7 @@ module _ {L D A F : Type 0} (seen : A → Seen) (shared : Shared L D F) (players
 
   are : views_of cs ≡ seated_actors key.opened.value.shape key.script.value start key.log_only key.archive
       (length B.followers)
-  are = sym (ap (starts_with key) fixed) ∙ sym B.actors_are ∙ ap (seated_actors key.opened.value.shape key.script.value start key.log_only key.archive) B.many
+  are = sym B.actors_are ∙ ap (starts_with key) fixed ∙ ap (seated_actors key.opened.value.shape key.script.value start key.log_only key.archive) B.many
 
   is_new : (i : ℕ) (r : ReaderState) → get_elem? players i ≡ maybe.some (player.Plain (own.Archiver r))
       → ◌≡◌ {A = ReaderState} r (new_reader 0 start)
