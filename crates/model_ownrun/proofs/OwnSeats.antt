@@ -113,16 +113,16 @@ module _ {live : Bool} (c : Setup) (users : List OwnUser) (k : LogWork) (others 
       (actor.Flusher k'.flusher) (flusher_there us k1 others) (k'.flusher, refl) in
       subst (AreSeated live c) (flusher_put us k1 others k'.flusher) with_flusher
 
-module _ {live : Bool} (D : LogSide) (E : DataSide) (c : Setup) where
-  abbrev Seated : OwnCore D E → Type 0
-  Seated s = AreSeated live c (all_actors s.users s.work s.others)
+module _ (D : LogSide) (E : DataSide) (c : Setup) where
+  abbrev Seated : Bool → OwnCore D E → Type 0
+  Seated live s = AreSeated live c (all_actors s.users s.work s.others)
 
-  pub own_turn_keeps_seats : (old new : OwnCore D E) (seat : ℕ) (answer : Answer) (step : Step) → Seated old
-      → OwnTurn D E old seat answer step new → Seated new
-  own_turn_keeps_seats old new seat answer step seated t = ⊎_elim of_user
+  pub own_turn_keeps_seats : {live : Bool} (old new : OwnCore D E) (seat : ℕ) (answer : Answer) (step : Step)
+      → Seated live old → OwnTurn D E old seat answer step new → Seated live new
+  own_turn_keeps_seats {live} old new seat answer step seated t = ⊎_elim of_user
       (λ u. turn_keeps_seats D E c (with_writer old) (with_writer new) (seat + 2) answer step seated u.turn) t
     where
-      of_user : UserTurn D E old seat answer step new → Seated new
+      of_user : UserTurn D E old seat answer step new → Seated live new
       of_user u =
           let x = own_goes_on u.who old.work answer in
           let us : List OwnUser = set old.users seat x.0 in
