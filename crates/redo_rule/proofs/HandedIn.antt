@@ -162,7 +162,7 @@ no_tail u line link_buffer.Closed = refl
 is_free : (u : UserState) (line : Line) → IsFreeToCheck (model.User (with_line u line))
 is_free u line = λ _. record { no_slot = refl; no_tail = no_tail u line }
 
-user_or : UserState → Actor → UserState
+abbrev user_or : UserState → Actor → UserState
 user_or u (model.User v) = v
 user_or u _ = u
 
@@ -400,6 +400,7 @@ module _ {L D : Type 0} (log_seen : L → Seen) (log_gives : L → Call → L �
       (at_set R.actors x.number n b a there)
 
   left : kept.Leaves log_seen log_gives data_seen data_gives about s R id v x sits at then R.parts R.beside after R.heard
+  unfolding runs
   left = let known = kept.known log_seen log_gives data_seen data_gives about s R id v x sits at in
       let first = kept.first log_seen log_gives data_seen data_gives about s R id v x sits at in record {
         same = record { words = refl; lists = refl };
