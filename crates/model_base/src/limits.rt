@@ -6,7 +6,7 @@ pub const BLOCK_SIZE: u64 = 512;
 pub const PAGE_SIZE: u32 = 4096;
 /// The other number of bytes that a page may have, but in formats 1 and 2.
 pub const LARGE_PAGE_SIZE: u32 = 16_384;
-/// The greatest number of bytes that a page may have: the offsets in records have 16 bits.
+/// Bytes that the 16 bits of an offset in a record can name; no page has more.
 pub const MAX_PAGE_SIZE: u32 = 65_536;
 /// The offset of a page's first user byte.
 pub const USER_START: u32 = 38;

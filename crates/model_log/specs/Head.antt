@@ -23,7 +23,7 @@ has_sizes_of One shape = has_early_sizes shape
 has_sizes_of Two shape = has_early_sizes shape
 has_sizes_of Three shape = has_sizes shape
 
--- the format of a store of this shape as a run has it
+-- the format of a header for this shape, once opening has taken a store of format 1 to format 2
 abbrev pub run_format : Shape → Format
 run_format shape = if shape.slots == SLOTS then Three else Two
 
