@@ -46,11 +46,12 @@ use Rattle.redo_lab.specs.Ending.{EndsWith}
 abbrev pub opened_at : {L D : Type 0} → store.Opened L D → ℕ → Opened
 opened_at given end = record { shape = given.shape; pages = given.pages; end = end }
 
--- what was read of these bytes is that
+-- what was read of these bytes is that, and a run on it has room
 pub record IsReadOff {L D : Type 0} (given : store.Opened L D) (end : ℕ) (log_bytes data_bytes : List ℕ) : Type 0 where
   pub reading : Reading
   pub is_read : IsReading log_bytes data_bytes reading
   pub same : opened_at given end ≡ opened_as reading
+  pub room : data_device_length given.shape ≤ length data_bytes
 
 -- an end after which the run starts, which is the one that was read, where both devices told and still tell
 pub record HasEnd {L D : Type 0} (log data_told log_now data_now : Option Disk) (given : store.Opened L D) : Type 0 where
@@ -72,6 +73,7 @@ end-of (Some log) (Some data_told) log_now data_now given runnable read = record
     reading = read.reading;
     is_read = read.is_read;
     same = λ i. record { shape = read.opened.shape i; pages = read.opened.pages i; end = read.reading.end };
+    room = read.room;
   };
 }
 
@@ -163,6 +165,7 @@ module _ (call : LabCall) (stops : Stops) (armed : AreArmed call stops) (laws : 
           shape = ap (λ (opened : Opened). opened.shape) read.same;
           pages = ap (λ (opened : Opened). opened.pages) read.same;
           end = ap (λ (opened : Opened). opened.end) read.same;
+          room = read.room;
         },
       ))
       (used-or-not log data_disk log_is data_is log_on data_on)

@@ -281,10 +281,18 @@ heads-cause log data_device log_after data_after device.NoMemory fault reading i
 
 -- WHAT IS OPENED is what was read.
 
-pub opening-of : {L D : Type 0} (log data_told : Option Disk) (result : OpenResult L D) (log_seen : L → Seen) (data_seen : D → Seen) (reading : Reading)
-    → WhereStillTold (log_seen (log_device_left result)).tells (data_seen (data_device_left result)).tells (OnContents log data_told (λ log_bytes data_bytes. IsReading log_bytes data_bytes reading))
+pub opening-of : {L D : Type 0} (log data_told : Option Disk) (result : OpenResult L D) (log_seen : L → Seen)
+    (data_seen : D → Seen) (reading : Reading)
+    → WhereStillTold (log_seen (log_device_left result)).tells (data_seen (data_device_left result)).tells
+    (OnContents log data_told (IsReadWithRoom reading))
     → IfOk result (IsOpenedAs reading)
-    → IfOk result (λ store. WhereStillTold (log_seen store.log.dev).tells (data_seen store.store.dev).tells (OnContents log data_told (λ log_bytes data_bytes. IsOpeningOf log_bytes data_bytes store)))
+    → IfOk result (λ store. WhereStillTold (log_seen store.log.dev).tells (data_seen store.store.dev).tells
+    (OnContents log data_told (λ log_bytes data_bytes. IsOpeningOf log_bytes data_bytes store)))
 opening-of log data_told (Ok store) log_seen data_seen reading reads opened = λ log_still data_still.
-    on-contents log data_told (λ log_bytes data_bytes is. record { reading = reading; is_read = is; opened = opened }) (reads log_still data_still)
+    on-contents log data_told (λ log_bytes data_bytes read. record {
+      reading = reading;
+      is_read = read.is_read;
+      opened = opened;
+      room = subst (λ (s : Shape). data_device_length s ≤ length data_bytes) (sym opened.shape) read.room;
+    }) (reads log_still data_still)
 opening-of log data_told (Err error) log_seen data_seen reading reads opened = tt

@@ -5,6 +5,7 @@ use Rattle.model_base.specs.declared.limits.TheConstants.{LSN_LIMIT}
 use Rattle.model_base.specs.declared.shape.Shape.{Shape}
 use Rattle.model_parts.specs.{first_marks, first_tails, IsAtRest, IsReady, KeepsOpened, numbers_taken, start_of}
 use Rattle.model_device.specs.Disk.{Disk}
+use Rattle.model_page.specs.{data_device_length}
 use Rattle.model_store.specs.{IsReading, RefusesToOpen}
 use Rattle.model_store.specs.Reading.{Reading}
 use Rattle.model_store.specs.declared.refusal.Refusal.{Refusal}
@@ -44,11 +45,12 @@ pub record IsOpenedAs {L D : Type 0} (reading : Reading) (store : Opened L D) : 
   pub pages : store.pages ≡ reading.pages
   pub number : store.log.marks.number ≡ (reading.number + numbers_taken reading.format) % 2 ^ 64
 
--- what these bytes are read as
+-- what these bytes are read as, where the data device has room for a run on it
 pub record IsOpeningOf {L D : Type 0} (log_bytes data_bytes : List ℕ) (store : Opened L D) : Type 0 where
   pub reading : Reading
   pub is_read : IsReading log_bytes data_bytes reading
   pub opened : IsOpenedAs reading store
+  pub room : data_device_length store.shape ≤ length data_bytes
 
 -- A store that was in order: its number hasn't gone round, its run starts below the lsn limit, and where both devices tell, both are ready for it.
 pub record IsOpenedReady {L D : Type 0} (log_seen : L → Seen) (data_seen : D → Seen) (reading : Reading) (store : Opened L D) : Type 0 where

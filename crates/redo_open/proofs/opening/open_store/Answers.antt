@@ -196,9 +196,11 @@ returns-clause-read g c =
     let log_told = told-back _ _ _ c.in-Ok-sync.ensures.step.ok
     (told-back _ _ _ c.in-Ok-make_alike.ensures.step.keeps log_left) in
     let data_told = told-back _ _ _ c.in-Ok-sync-2.ensures.step.ok data_left in
-    reading-back (reading_of c.in-Ok.recovered) _ _ _ _ _ c.in-Ok.ensures.log.unchanged.tells
+    contents-back (IsReadWithRoom (reading_of c.in-Ok.recovered)) _ _ _ _ _ c.in-Ok.ensures.log.unchanged.tells
     c.in-Ok-read_heads.ensures.reads.unchanged.tells c.in-Ok.ensures.data_device.unchanged.tells log_told data_told
-    c.in-Ok.ensures.recovered.read)
+    (read-roomy _ _ (g.D.Sectors.seen c.args.data_device).size (reading_of c.in-Ok.recovered)
+    (had-room c.in-Ok.recovered.shape c.run_shape.ensures.shape c.len-2.ensures.size c.in-Ok-check_lengths.ensures.fit.1
+    c.in-Ok.ensures.data_device.unchanged.size) c.in-Ok.ensures.recovered.sized c.in-Ok.ensures.recovered.read))
     c.open_recovered.ensures.step.opened_as
 
 pub open_recovered-requires-clause-found : goal.open_recovered-requires-clause-found
