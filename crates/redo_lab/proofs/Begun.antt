@@ -24,8 +24,8 @@ use Rattle.redo_memdisk.specs.declared.fused.Fused.{Fused}
 use Rattle.redo_store.specs.declared.opened.Opened.{Opened}
 use Rattle.redo_lab.proofs.Opening.{unplayed-archive, unplayed-memory}
 use Rattle.redo_lab.proofs.Unarchived.{no-archive, spares-untouched}
-use Rattle.redo_lab.specs.Archiving.{AreBegun, AreUnbegunBy, device_of}
-use Rattle.redo_lab.specs.Call.{IsUnfused, IsWellCalled, LabCall, Unfused, unfused}
+use Rattle.redo_lab.specs.Archiving.{AreBegun, AreUnbegunBy, device_of, IsUnfused}
+use Rattle.redo_lab.specs.Call.{IsWellCalled, LabCall, Unfused, unfused}
 use Rattle.redo_lab.specs.Cause.{archive_size}
 use Rattle.redo_lab.specs.Ending.{EndsWith, WhereDone}
 use Rattle.redo_lab.specs.Laws.{Laws}

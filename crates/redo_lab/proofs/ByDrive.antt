@@ -13,12 +13,9 @@ use Rattle.redo_disk.specs.Seen.{Seen}
 use Rattle.redo_drive.specs.Views.{views_of}
 use Rattle.redo_drive.specs.declared.drive.Driven.{Driven}
 use Rattle.redo_drive.specs.declared.drive.RunEnd.TheVariants.{Done, Spent}
-use Rattle.redo_machine.specs.{RunsByTurns}
-use Rattle.redo_memdisk.specs.{CallsThrough, seen_through}
 use Rattle.redo_memdisk.specs.declared.fused.Fused.{Fused}
 use Rattle.redo_store.specs.declared.opened.Opened.{Opened}
 use Rattle.redo_threads.specs.InThreads.{RunsInThreads}
-use Rattle.redo_lab.specs.Asked.{turns_of}
 use Rattle.redo_lab.specs.Cause.{MaySpend}
 use Rattle.redo_disk.specs.{StillTells}
 use Rattle.redo_disk.proofs.Told.{still-then}
@@ -63,31 +60,6 @@ module _ {L D : Type 0} (log_seen : L → Seen) (log_gives : L → Call → L �
       → List model.Actor → Driven (Fused L) (Fused D) → Type 0
   TellsIn threads own_writes asked opened script actors driven =
       TellsOf threads own_writes log_seen log_gives data_seen data_gives asked opened script actors driven
-
-  -- by turns
-  pub tells-turns : (asked : Drive) (opened : Opened (Fused L) (Fused D))
-      (script : List ScriptLine) (actors : List model.Actor) (driven : Driven (Fused L) (Fused D))
-      → asked.threads ≡ false → TellsIn false asked.own_writes asked opened script actors driven
-      → TellsIn asked.threads asked.own_writes asked opened script actors driven
-  tells-turns asked opened script actors driven is told =
-      subst (λ (threads : Bool). TellsIn threads asked.own_writes asked opened script actors driven) (sym is) told
-
-  -- of users that write for themselves, or beside a writer and a flusher
-  abbrev ByTurns : Bool → Drive → Bool → ℕ → Opened (Fused L) (Fused D) → List ScriptLine → List model.Actor
-      → Driven (Fused L) (Fused D) → Type 0
-  ByTurns own_writes asked archive followers opened script actors driven = RunsByTurns (seen_through log_seen)
-      (CallsThrough log_seen log_gives) (seen_through data_seen) (CallsThrough data_seen data_gives)
-      own_writes opened script (turns_of asked) archive followers actors driven
-
-  pub tells-by : (own_writes : Bool) (asked : Drive) (archive : Bool) (followers : ℕ)
-      (opened : Opened (Fused L) (Fused D)) (script : List ScriptLine) (actors : List model.Actor)
-      (driven : Driven (Fused L) (Fused D)) → asked.own_writes ≡ own_writes
-      → ByTurns own_writes asked archive followers opened script actors driven → followers ≡ asked.followers
-      → archive ≡ asked.archive → TellsIn false asked.own_writes asked opened script actors driven
-  tells-by own_writes asked archive followers opened script actors driven is told as_many archived =
-      subst (λ (own : Bool). ByTurns own asked asked.archive asked.followers opened script actors driven) (sym is)
-      (subst (λ (archive : Bool). ByTurns own_writes asked archive asked.followers opened script actors driven) archived
-      (subst (λ (n : ℕ). ByTurns own_writes asked archive n opened script actors driven) as_many told))
 
   -- in threads
   pub tells-threads : (asked : Drive) (opened : Opened (Fused L) (Fused D))

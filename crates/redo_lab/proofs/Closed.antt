@@ -17,7 +17,6 @@ use Rattle.redo_drive.specs.Views.{views_of}
 use Rattle.redo_drive.specs.declared.actor.Actor.{Actor}
 use Rattle.redo_drive.specs.declared.drive.Driven.{Driven}
 use Rattle.redo_follow.specs.Tallying.{HasTally, Kept}
-use Rattle.redo_io.specs.{SourceSeen}
 use Rattle.redo_lsn.specs.declared.memory.NoMemory.{NoMemory}
 use Rattle.redo_memdisk.specs.{CallsThrough, seen_through}
 use Rattle.redo_memdisk.specs.declared.fused.Fused.{Fused}
@@ -31,10 +30,10 @@ use Rattle.redo_lab.proofs.Kept.{finished-after, finished-owed, finished-reads, 
 use Rattle.redo_lab.proofs.Kept.{to-finish, well-run}
 use Rattle.redo_lab.proofs.Opening.{unplayed-memory}
 use Rattle.redo_lab.proofs.Owed.{IsOwed, as-owed}
-use Rattle.redo_lab.specs.Archiving.{failed_of}
+use Rattle.redo_lab.specs.Archiving.{failed_of, IsUnfused}
 use Rattle.redo_lab.specs.Begun.{HasBegun, IsClosedBy, IsUnrun}
-use Rattle.redo_lab.specs.Call.{IsUnfused, LabCall, Unfused}
-use Rattle.redo_lab.specs.Handed.{AreOf, TellsOf, call_on}
+use Rattle.redo_lab.specs.Call.{LabCall}
+use Rattle.redo_lab.specs.Handed.{AreOf, TellsOf, call_on, Handed}
 use Rattle.redo_lab.specs.Laws.{Laws}
 use Rattle.redo_lab.specs.Runs.{AreWellCalled, CommandRuns, IsGivenBack, IsRanBy, SparedBy, StandsReady}
 use Rattle.redo_lab.specs.Runs.{course_of, ended_by, played_of}
@@ -46,14 +45,14 @@ use Rattle.redo_lab.specs.declared.playing.Stops.{Stops}
 
 module _ {L D A : Type 0} (log_seen : L → Seen) (log_gives : L → Call → L → Type 0) (data_seen : D → Seen) (data_gives : D → Call → D → Type 0)
     (seen : A → Seen) (arch_gives : A → Call → A → Type 0) (drive : Drive) (script : List ScriptLine)
-    (handed : Option A) (begun : Begun L D A)
-    (has : HasBegun seen arch_gives drive script handed begun) where
+    (arch : Option A) (begun : Begun L D A)
+    (has : HasBegun seen arch_gives drive script arch begun) where
   abbrev Owed-so : Driven (Fused L) (Fused D) → Type 0
   Owed-so driven = IsOwed (seen_through log_seen) (CallsThrough log_seen log_gives) (seen_through data_seen) (CallsThrough data_seen data_gives)
       begun.opened script driven
 
   abbrev Ready-on : (Fused L → Fused D → LabCall) → Stops → Type 0
-  Ready-on call stops = (now : Option A) → IsUnfused seen handed now (call begun.opened.log.dev begun.opened.store.dev).archive
+  Ready-on call stops = (now : Option A) → IsUnfused seen arch now (call begun.opened.log.dev begun.opened.store.dev).archive
       → StandsReady log_seen data_seen (call begun.opened.log.dev begun.opened.store.dev) drive stops script begun.opened
 
   -- A RUN THAT WAS DRIVEN
@@ -69,7 +68,7 @@ module _ {L D A : Type 0} (log_seen : L → Seen) (log_gives : L → Call → L 
 
     pub was-started : IfSome after (λ part. START_LSN ≤ part.start)
     was-started = still-started (seen_through log_seen) (seen_through data_seen) seen arch_gives begun.opened script
-        first (views_of actors) handed begun.archive after
+        first (views_of actors) arch begun.archive after
         (let low = has.may.runnable.first in omega arith) has.archive archived
 
     module _ (reads : ArchiveReads) (ran : Ran L D) (left : Option A)
@@ -85,21 +84,21 @@ module _ {L D A : Type 0} (log_seen : L → Seen) (log_gives : L → Call → L 
       pub run-entered : (log : L) (store : D) → AreOf log store begun.opened.log.dev begun.opened.store.dev → AreOf log store ran.log ran.store
       run-entered log store entered = rw (closed.log, closed.store) (entries-then entered (owed-entries owed))
 
-      pub run-given : IsGivenBack seen (SparedBy ran.course) handed left
-      run-given = rw (closed.course, closed.device_is) (given-run seen _ _ _ handed _
+      pub run-given : IsGivenBack seen (SparedBy ran.course) arch left
+      run-given = rw (closed.course, closed.device_is) (given-run seen _ _ _ arch _
           (still-some (seen_through log_seen) (CallsThrough log_seen log_gives) (seen_through data_seen) seen arch_gives
           begun.opened script
-          first closed.after (views_of actors) handed begun.archive after closed.archive_now has.archive archived closed.finished))
+          first closed.after (views_of actors) arch begun.archive after closed.archive_now has.archive archived closed.finished))
 
       abbrev its-played : Played
       its-played = played_of begun.opened.start closed.after.closed closed.follows
 
-      pub run-well : AreWellCalled arch_gives ran.course handed left
+      pub run-well : AreWellCalled arch_gives ran.course arch left
       run-well = rw (closed.course, closed.device_is) (well-run log_seen log_gives data_seen data_gives begun.opened
           script seen arch_gives reads drive.log_only has.may first
           (as-owed (seen_through log_seen) (CallsThrough log_seen log_gives) (seen_through data_seen)
           (CallsThrough data_seen data_gives)
-          begun.opened script first owes) (views_of actors) handed begun.archive after closed.archive_now
+          begun.opened script first owes) (views_of actors) arch begun.archive after closed.archive_now
           closed.after has.archive archived closed.finished
           (course_of closed.after.ended its-played (ended_by closed.after.closed.log.failed closed.after.closed.store.failed
           (failed_of closed.archive_now)))
@@ -107,24 +106,24 @@ module _ {L D A : Type 0} (log_seen : L → Seen) (log_gives : L → Call → L 
           (failed_of closed.archive_now)))
 
       -- WHAT IT COMES TO
-      module _ (words : List (List ℕ)) (archive : Unfused) (source source_now : SourceSeen) (log : L) (store : D) (command : Command) (stops : Stops)
-          (running : CommandRuns source source_now command drive script) (laws : Laws) (archives : is_some handed ≡ drive.archive) where
+      module _ (handed : Handed) (log : L) (store : D) (command : Command) (stops : Stops)
+          (running : CommandRuns handed.source handed.source_now command drive script) (laws : Laws) (archives : is_some arch ≡ drive.archive) where
         abbrev call : Fused L → Fused D → LabCall
-        call = call_on log_seen log_gives data_seen data_gives words archive source source_now log store
+        call = call_on log_seen log_gives data_seen data_gives handed log store
 
         pub run-comes : Ready-on call stops
             → TellsOf drive.threads drive.own_writes log_seen log_gives data_seen data_gives drive begun.opened script (views_of actors) first
             → (drive.threads ≡ true → first.closed.lost ≡ None
             → ReadsToMarks (seen_through log_seen) (seen_through data_seen) begun.opened script first.closed)
             → HaveFollowed (seen_through log_seen) (seen_through data_seen) HasTally begun.opened script begun.followers.items actors first.closed
-            → IsUnfused seen handed left archive
+            → IsUnfused seen arch left handed.archive
             → IsRanBy call command drive stops script ran
         run-comes ready told read followed same =
             let was = as-owed (seen_through log_seen) (CallsThrough log_seen log_gives) (seen_through data_seen) (CallsThrough data_seen data_gives)
             begun.opened script first owes in
             let same_now = rw closed.device_is at same in
             rw (closed.course, closed.log, closed.store)
-            (driven-comes log_seen log_gives data_seen data_gives words archive source source_now log store command drive stops script
+            (driven-comes log_seen log_gives data_seen data_gives handed log store command drive stops script
             begun.opened first closed.after running laws (ready left same) actors told
             (finished-after log_seen log_gives data_seen data_gives begun.opened script seen arch_gives reads
             drive.log_only has.may first was after closed.archive_now closed.after closed.finished)
@@ -136,8 +135,8 @@ module _ {L D A : Type 0} (log_seen : L → Seen) (log_gives : L → Call → L 
             (spends-turns log_seen log_gives data_seen data_gives _ _ drive)
             _
             (kept-run log_seen log_gives data_seen data_gives begun.opened script seen arch_gives reads drive.log_only
-            has.may first was (views_of actors) handed begun.archive after closed.archive_now closed.after
-            has.archive archived closed.finished archive same_now drive.archive archives))
+            has.may first was (views_of actors) arch begun.archive after closed.archive_now closed.after
+            has.archive archived closed.finished handed.archive same_now drive.archive archives))
 
   -- A RUN WITHOUT MEMORY FOR ITS DRIVE
   module _ (log_old : Fused L) (store_old : Fused D) (archive_old : Option (Part A)) (ran : Ran L D) (left : Option A)
@@ -146,19 +145,19 @@ module _ {L D A : Type 0} (log_seen : L → Seen) (log_gives : L → Call → L 
     pub unrun-entered : (log : L) (store : D) → AreOf log store begun.opened.log.dev begun.opened.store.dev → AreOf log store ran.log ran.store
     unrun-entered log store entered = entries-then entered (both-same (unrun.log_is ∙ log_same) (unrun.store_is ∙ store_same))
 
-    pub unrun-given : IsGivenBack seen (SparedBy ran.course) handed left
+    pub unrun-given : IsGivenBack seen (SparedBy ran.course) arch left
     unrun-given = rw (unrun.course, unrun.device_is, archive_same)
-        (given-memory seen arch_gives begun.opened handed begun.archive has.archive)
+        (given-memory seen arch_gives begun.opened arch begun.archive has.archive)
 
-    pub unrun-well : AreWellCalled arch_gives ran.course handed left
-    unrun-well = rw unrun.course (cut-well arch_gives (course.Ended Memory) (λ uncut. uncut) handed left)
+    pub unrun-well : AreWellCalled arch_gives ran.course arch left
+    unrun-well = rw unrun.course (cut-well arch_gives (course.Ended Memory) (λ uncut. uncut) arch left)
 
-    module _ (words : List (List ℕ)) (archive : Unfused) (source source_now : SourceSeen) (log : L) (store : D) (command : Command) (stops : Stops)
-        (running : CommandRuns source source_now command drive script) (laws : Laws) where
+    module _ (handed : Handed) (log : L) (store : D) (command : Command) (stops : Stops)
+        (running : CommandRuns handed.source handed.source_now command drive script) (laws : Laws) where
       abbrev call-un : Fused L → Fused D → LabCall
-      call-un = call_on log_seen log_gives data_seen data_gives words archive source source_now log store
+      call-un = call_on log_seen log_gives data_seen data_gives handed log store
 
-      pub unrun-comes : Ready-on call-un stops → IsUnfused seen handed left archive → IsRanBy call-un command drive stops script ran
+      pub unrun-comes : Ready-on call-un stops → IsUnfused seen arch left handed.archive → IsRanBy call-un command drive stops script ran
       unrun-comes ready same =
           let stands = ready left same in
           rw (unrun.course, unrun.log_is, unrun.store_is, log_same, store_same)
@@ -207,23 +206,23 @@ module _ {L D A : Type 0} (log_seen : L → Seen) (log_gives : L → Call → L 
         unrun-entered error.1 error.2 error.3 ran now same.0 same.1 same.2 unrun
 
     pub after-given : (after : After) → Owed-after after → Archived-after after → Same-after after → Closed-after after ran now
-        → Unrun-after after ran now → IsGivenBack seen (SparedBy ran.course) handed now
+        → Unrun-after after ran now → IsGivenBack seen (SparedBy ran.course) arch now
     after-given (Ok left) owes archived same closed unrun =
         run-given left.0 left.1.items left.2 owes archived reads ran now closed
     after-given (Err error) owes archived same closed unrun =
         unrun-given error.1 error.2 error.3 ran now same.0 same.1 same.2 unrun
 
     pub after-well : (after : After) → Owed-after after → Archived-after after → Same-after after
-        → Closed-after after ran now → Unrun-after after ran now → AreWellCalled arch_gives ran.course handed now
+        → Closed-after after ran now → Unrun-after after ran now → AreWellCalled arch_gives ran.course arch now
     after-well (Ok left) owes archived same closed unrun =
         run-well left.0 left.1.items left.2 owes archived reads ran now closed
     after-well (Err error) owes archived same closed unrun =
         unrun-well error.1 error.2 error.3 ran now same.0 same.1 same.2 unrun
 
-    module _ (words : List (List ℕ)) (archive : Unfused) (source source_now : SourceSeen) (log : L) (store : D) (command : Command) (stops : Stops)
-        (running : CommandRuns source source_now command drive script) (laws : Laws) (archives : is_some handed ≡ drive.archive) where
+    module _ (handed : Handed) (log : L) (store : D) (command : Command) (stops : Stops)
+        (running : CommandRuns handed.source handed.source_now command drive script) (laws : Laws) (archives : is_some arch ≡ drive.archive) where
       abbrev call-of : Fused L → Fused D → LabCall
-      call-of = call_on log_seen log_gives data_seen data_gives words archive source source_now log store
+      call-of = call_on log_seen log_gives data_seen data_gives handed log store
 
       pub after-comes : (after : After) → Owed-after after → Archived-after after → Same-after after → Closed-after after ran now
           → Unrun-after after ran now → Ready-on call-of stops
@@ -233,10 +232,10 @@ module _ {L D A : Type 0} (log_seen : L → Seen) (log_gives : L → Call → L 
           → ReadsToMarks (seen_through log_seen) (seen_through data_seen) begun.opened script left.0.closed))
           → IfOk after (λ left. HaveFollowed (seen_through log_seen) (seen_through data_seen) HasTally begun.opened script begun.followers.items
           left.1.items left.0.closed)
-          → IsUnfused seen handed now archive → IsRanBy call-of command drive stops script ran
+          → IsUnfused seen arch now handed.archive → IsRanBy call-of command drive stops script ran
       after-comes (Ok left) owes archived same closed unrun ready told read followed unfused =
-          run-comes left.0 left.1.items left.2 owes archived reads ran now closed words archive source source_now log store command stops
+          run-comes left.0 left.1.items left.2 owes archived reads ran now closed handed log store command stops
           running laws archives ready told read followed unfused
       after-comes (Err error) owes archived same closed unrun ready told read followed unfused =
-          unrun-comes error.1 error.2 error.3 ran now same.0 same.1 same.2 unrun words archive source source_now log store command stops
+          unrun-comes error.1 error.2 error.3 ran now same.0 same.1 same.2 unrun handed log store command stops
           running laws ready unfused

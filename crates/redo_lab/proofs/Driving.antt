@@ -33,7 +33,6 @@ use Rattle.redo_drive.specs.declared.drive.RunEnd.{RunEnd}
 use Rattle.redo_drive.specs.declared.drive.RunEnd.TheVariants.{Done, Spent}
 use Rattle.redo_follow.specs.Following.{Following}
 use Rattle.redo_follow.specs.Tallying.{HasTally, Kept}
-use Rattle.redo_io.specs.{SourceSeen}
 use Rattle.redo_memdisk.proofs.Behind.{counts-calls, keeps-behind}
 use Rattle.redo_memdisk.specs.{CallsThrough, seen_through}
 use Rattle.redo_memdisk.specs.declared.fused.Fused.{Fused}
@@ -57,10 +56,10 @@ use Rattle.redo_lab.proofs.Rereading.{armed-as}
 use Rattle.redo_lab.proofs.SomeLeft.{some-left}
 use Rattle.redo_lab.proofs.Told.{both-told, one-told, some-told, weaker-both}
 use Rattle.redo_lab.specs.Archived.{IsArchiveOf, IsArchived}
-use Rattle.redo_lab.specs.Call.{LabCall, WhereOpened, WhereToldNow, mids, Unfused}
+use Rattle.redo_lab.specs.Call.{LabCall, WhereOpened, WhereToldNow, mids}
 use Rattle.redo_lab.specs.Following.{IsToldOf}
 use Rattle.redo_lab.specs.Untold.{AreUntold}
-use Rattle.redo_lab.specs.Handed.{TellsOf, call_on}
+use Rattle.redo_lab.specs.Handed.{TellsOf, call_on, Handed}
 use Rattle.redo_lab.specs.Laws.{Laws}
 use Rattle.redo_lab.specs.Runs.{ComesTo, CommandRuns, IsLeftBy, IsToldRightly, StandsReady, course_done, course_of, ended_by, played_of, ran_of}
 use Rattle.redo_lab.specs.Store.{AreReadAsPrefix}
@@ -74,9 +73,9 @@ synced-fair disk = record {
 }
 
 module _ {L D : Type 0} (log_seen : L → Seen) (log_gives : L → Call → L → Type 0) (data_seen : D → Seen) (data_gives : D → Call → D → Type 0)
-    (words : List (List ℕ)) (archive : Unfused) (source source_now : SourceSeen) (log : L) (data_device : D) (command : Command) (drive : Drive) (stops : Stops) (script : List ScriptLine)
-    (given : store.Opened (Fused L) (Fused D)) (first driven : Driven (Fused L) (Fused D)) (running : CommandRuns source source_now command drive script) (laws : Laws)
-    (ready : StandsReady log_seen data_seen (call_on log_seen log_gives data_seen data_gives words archive source source_now log data_device given.log.dev given.store.dev) drive stops script given)
+    (handed : Handed) (log : L) (data_device : D) (command : Command) (drive : Drive) (stops : Stops) (script : List ScriptLine)
+    (given : store.Opened (Fused L) (Fused D)) (first driven : Driven (Fused L) (Fused D)) (running : CommandRuns handed.source handed.source_now command drive script) (laws : Laws)
+    (ready : StandsReady log_seen data_seen (call_on log_seen log_gives data_seen data_gives handed log data_device given.log.dev given.store.dev) drive stops script given)
     (actors : List (Actor Kept))
     (told : TellsOf drive.threads drive.own_writes log_seen log_gives data_seen data_gives drive given script (views_of actors) first)
     (after : IsReadAfter log_seen data_seen given.start first driven)
@@ -88,14 +87,14 @@ module _ {L D : Type 0} (log_seen : L → Seen) (log_gives : L → Call → L �
     (followed : HaveFollowed (seen_through log_seen) (seen_through data_seen) HasTally given script followers actors
     first.closed)
     (of_followers : AllZip IsToldOf (followers_in actors) follows.items)
-    (spends : SpendsTurns (call_on log_seen log_gives data_seen data_gives words archive source source_now log data_device driven.closed.log.dev driven.closed.store.dev) drive)
+    (spends : SpendsTurns (call_on log_seen log_gives data_seen data_gives handed log data_device driven.closed.log.dev driven.closed.store.dev) drive)
     (error : Option DevError)
-    (kept : IsKept log_seen log_gives data_seen data_gives given script archive drive.archive driven error) where
+    (kept : IsKept log_seen log_gives data_seen data_gives given script handed.archive drive.archive driven error) where
   abbrev opening : LabCall
-  opening = call_on log_seen log_gives data_seen data_gives words archive source source_now log data_device given.log.dev given.store.dev
+  opening = call_on log_seen log_gives data_seen data_gives handed log data_device given.log.dev given.store.dev
 
   abbrev call : LabCall
-  call = call_on log_seen log_gives data_seen data_gives words archive source source_now log data_device driven.closed.log.dev driven.closed.store.dev
+  call = call_on log_seen log_gives data_seen data_gives handed log data_device driven.closed.log.dev driven.closed.store.dev
 
   abbrev played : Played
   played = played_of given.start driven.closed follows
@@ -188,7 +187,7 @@ module _ {L D : Type 0} (log_seen : L → Seen) (log_gives : L → Call → L �
       let same : record { shape = given.shape; pages = given.pages; end = ready.opened.end } ≡ ready.opened =
       λ i. record { shape = is.shape i; pages = is.pages i; end = ready.opened.end } in
       record {
-        armed = armed-after words archive source source_now log data_device ready.armed log-none data-none log-made data-made;
+        armed = armed-after handed log data_device ready.armed log-none data-none log-made data-made;
         counted = (let some = (counts-calls log_seen log_gives given.log.dev driven.closed.log.dev log-made.calls log-made.made).passed (omega (arith, ready.counted, log-none)) in omega arith);
         opened = ready.opened;
         ran = record {
@@ -294,7 +293,7 @@ module _ {L D : Type 0} (log_seen : L → Seen) (log_gives : L → Call → L �
 
   -- WHAT IS LEFT OF ITS ARCHIVE is so.
   abbrev Archived-so : Type 0
-  Archived-so = IsLeftArchived log_seen log_gives data_seen data_gives given script archive driven error
+  Archived-so = IsLeftArchived log_seen log_gives data_seen data_gives given script handed.archive driven error
 
   archived-run : drive.archive ≡ true → (was : Reading) → HasReading was given
       → WhereBothTell (log_seen given.log.dev.inner).tells (data_seen given.store.dev.inner).tells (λ log_was data_was.

@@ -41,8 +41,8 @@ use Rattle.redo_lab.proofs.DrivenEnds.{UpTo}
 use Rattle.redo_lab.proofs.Opening.{at-start}
 use Rattle.redo_lab.proofs.Owed.{IsOwed, IsReadAfter, owed-back, read-none, read-some, reads-back}
 use Rattle.redo_lab.specs.Archived.{IsArchiveOf}
-use Rattle.redo_lab.specs.Archiving.{ArchivesRan, AreBegun, HaveFinished, device_of, failed_of, read_back}
-use Rattle.redo_lab.specs.Call.{IsUnfused, IsWellCalled, Unfused, unfused}
+use Rattle.redo_lab.specs.Archiving.{ArchivesRan, AreBegun, HaveFinished, device_of, failed_of, read_back, IsUnfused}
+use Rattle.redo_lab.specs.Call.{IsWellCalled, Unfused, unfused}
 use Rattle.redo_lab.specs.Handed.{IsOpenedAt}
 use Rattle.redo_lab.specs.Runs.{AreWellCalled, IsUncut}
 use Rattle.redo_lab.specs.declared.playing.Course.{Course}

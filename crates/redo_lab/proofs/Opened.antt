@@ -21,7 +21,6 @@ use Rattle.redo_disk.specs.declared.error.DevError.{DevError}
 use Rattle.redo_disk.proofs.Made.{weaker_calls}
 use Rattle.redo_drive.specs.{room_from}
 use Rattle.redo_drive.specs.declared.drive.RunEnd.TheVariants.{Done}
-use Rattle.redo_io.specs.{SourceSeen}
 use Rattle.redo_memdisk.proofs.Behind.{counts-calls}
 use Rattle.redo_memdisk.specs.{CallsThrough, seen_through, while_stopping}
 use Rattle.redo_memdisk.specs.declared.fused.Fused.{Fused}
@@ -40,22 +39,22 @@ use Rattle.redo_lab.proofs.Opening.{HasEnd, has-end, opened-reads, opened_at, op
 use Rattle.redo_lab.proofs.Rereading.{armed-as, prepared-later, was_of}
 use Rattle.redo_lab.proofs.Told.{both-told, moved, still-equal, still-keeps, still-moves, weaker-both}
 use Rattle.redo_lab.specs.Cause.{archive_size}
-use Rattle.redo_lab.specs.Call.{LabCall, Unfused}
+use Rattle.redo_lab.specs.Call.{LabCall}
 use Rattle.redo_lab.specs.Devices.{AreArmed, AreAsArmed}
-use Rattle.redo_lab.specs.Handed.{call_on}
+use Rattle.redo_lab.specs.Handed.{call_on, Handed}
 use Rattle.redo_lab.specs.Laws.{Laws}
 use Rattle.redo_lab.specs.Runs.{ComesTo, CommandRuns, IsLeftBy, StandsReady, unopened}
 use Rattle.redo_lab.specs.Ending.{EndsWith}
 
 -- CALLS OF BOTH DEVICES since their fuses were armed
 pub armed-after : {L D : Type 0} {log_seen : L → Seen} {log_gives : L → Call → L → Type 0} {data_seen : D → Seen} {data_gives : D → Call → D → Type 0}
-    (words : List (List ℕ)) (archive : Unfused) (source source_now : SourceSeen) (log : L) (data_device : D) {stops : Stops} {log_old log_new : Fused L} {data_old data_new : Fused D} {log_error data_error : Option DevError}
-    → AreArmed (call_on log_seen log_gives data_seen data_gives words archive source source_now log data_device log_old data_old) stops
+    (handed : Handed) (log : L) (data_device : D) {stops : Stops} {log_old log_new : Fused L} {data_old data_new : Fused D} {log_error data_error : Option DevError}
+    → AreArmed (call_on log_seen log_gives data_seen data_gives handed log data_device log_old data_old) stops
     → log_old.fuse.mid ≡ 0 → data_old.fuse.mid ≡ 0
     → MakesCalls (CallsThrough log_seen log_gives) log_old log_new (MayEndWith log_error) → MakesCalls (CallsThrough data_seen data_gives) data_old data_new (MayEndWith data_error)
-    → AreArmed (call_on log_seen log_gives data_seen data_gives words archive source source_now log data_device log_new data_new) stops
-armed-after {log_seen = log_seen} {log_gives = log_gives} {data_seen = data_seen} {data_gives = data_gives} words archive source source_now log data_device {log_old = log_old} {log_new = log_new} {data_old = data_old} {data_new = data_new} was log_none data_none log_made data_made = record {
-  prepared = prepared-later (call_on log_seen log_gives data_seen data_gives words archive source source_now log data_device log_new data_new) (was_of log_seen log_old) (was_of data_seen data_old)
+    → AreArmed (call_on log_seen log_gives data_seen data_gives handed log data_device log_new data_new) stops
+armed-after {log_seen = log_seen} {log_gives = log_gives} {data_seen = data_seen} {data_gives = data_gives} handed log data_device {log_old = log_old} {log_new = log_new} {data_old = data_old} {data_new = data_new} was log_none data_none log_made data_made = record {
+  prepared = prepared-later (call_on log_seen log_gives data_seen data_gives handed log data_device log_new data_new) (was_of log_seen log_old) (was_of data_seen data_old)
       (armed-as log was.log_device.stage_is log_made) (armed-as data_device was.data_device.stage_is data_made) was.prepared;
   log_device = (armed-calls was.log_device log_none log_made).0;
   data_device = (armed-calls was.data_device data_none data_made).0;
@@ -71,20 +70,20 @@ pub record IsOpening (log_failed data_failed : ℕ) (log_met data_met : Option D
   pub data_as : call.store.armed_from ≡ data_met
 
 pub is-opening : {L D : Type 0} {log_seen : L → Seen} {log_gives : L → Call → L → Type 0} {data_seen : D → Seen} {data_gives : D → Call → D → Type 0}
-    (words : List (List ℕ)) (archive : Unfused) (source source_now : SourceSeen) (log : L) (data_device : D) {stops : Stops} {log_old log_new : Fused L} {data_old data_new : Fused D} {log_error data_error : Option DevError}
-    → AreArmed (call_on log_seen log_gives data_seen data_gives words archive source source_now log data_device log_old data_old) stops
-    → AreAsArmed (call_on log_seen log_gives data_seen data_gives words archive source source_now log data_device log_old data_old)
+    (handed : Handed) (log : L) (data_device : D) {stops : Stops} {log_old log_new : Fused L} {data_old data_new : Fused D} {log_error data_error : Option DevError}
+    → AreArmed (call_on log_seen log_gives data_seen data_gives handed log data_device log_old data_old) stops
+    → AreAsArmed (call_on log_seen log_gives data_seen data_gives handed log data_device log_old data_old)
     → MakesCalls (CallsThrough log_seen log_gives) log_old log_new (OpensLog (log_seen log_old.inner).size log_error)
     → MakesCalls (CallsThrough data_seen data_gives) data_old data_new (MayEndWith data_error)
     → IsOpening (failures log_error) (failures data_error) (log_seen log_old.inner).tells (data_seen data_old.inner).tells
-    (call_on log_seen log_gives data_seen data_gives words archive source source_now log data_device log_new data_new) stops
-is-opening {log_seen = log_seen} {log_gives = log_gives} words archive source source_now log data_device {log_old = log_old} {log_new = log_new} was none log_made data_made =
+    (call_on log_seen log_gives data_seen data_gives handed log data_device log_new data_new) stops
+is-opening {log_seen = log_seen} {log_gives = log_gives} handed log data_device {log_old = log_old} {log_new = log_new} was none log_made data_made =
     let log_ends = weaker_calls (λ calls opens. opens.ends) log_made in
     let counts = counts-calls log_seen log_gives log_old log_new log_made.calls log_made.made in
     let header : HEADER_BYTES ≤ (log_seen log_old.inner).size = omega (arith, was.prepared.header, was.log_device.same.size) in
     let some : 0 < length log_made.calls = log_made.are.begun header in
     record {
-      armed = armed-after words archive source source_now log data_device was none.0.0 none.1.0 log_ends data_made;
+      armed = armed-after handed log data_device was none.0.0 none.1.0 log_ends data_made;
       counted = counts.some (subst (λ stage. 0 < while_stopping stage (length log_made.calls)) (sym was.log_device.stage_is) some);
       log_mid = (armed-calls was.log_device none.0.0 log_ends).1;
       data_mid = (armed-calls was.data_device none.1.0 data_made).1;

@@ -1,18 +1,24 @@
 -- What a command leaves alone that archives no run.
 use Rattle.std.proofs.Common.{ℕ, ◌≡◌, true, false, if◌then◌else◌, Bool, Option, Some, None, refl, sym, ap}
 use Rattle.model_report.specs.declared.fault.Fault.TheVariants as fault
+use Rattle.model_script.specs.declared.asked.Command.{Command}
 use Rattle.model_script.specs.declared.asked.Command.TheVariants.{Restore}
 use Rattle.model_script.specs.declared.asked.Drive.{Drive}
 use Rattle.redo_disk.proofs.Made.{none_ends}
 use Rattle.redo_disk.specs.{Call}
+use Rattle.redo_disk.specs.Seen.{Seen}
+use Rattle.redo_io.specs.{SourceSeen}
+use Rattle.redo_lab.proofs.Alone.{all-left}
 use Rattle.redo_lab.specs.Ending.{SparesArchive, WhereDone}
 use Rattle.redo_lab.specs.declared.crash_command.Crashing.{Crashing}
+use Rattle.redo_lab.specs.declared.outcome.Done.{Done}
 use Rattle.redo_lab.specs.declared.outcome.Outcome.{Outcome}
 use Rattle.redo_lab.specs.declared.outcome.Outcome.TheVariants as outcome
-use Rattle.redo_lab.specs.Asked.{calls_archive}
 use Rattle.redo_lab.specs.Allowed.{HasAllowedNumbers}
-use Rattle.redo_lab.specs.Call.{IsWellCalled, Unfused}
+use Rattle.redo_lab.specs.Asked.{calls_archive}
+use Rattle.redo_lab.specs.Call.{IsWellCalled, Unfused, unfused}
 use Rattle.redo_lab.specs.Cause.{archive_size}
+use Rattle.redo_lab.specs.Done.{IsDoneBy, IsUnreadEnd}
 use Rattle.redo_lab.specs.Runs.{command_with}
 
 -- its script isn't judged by the archive's device
@@ -51,3 +57,19 @@ pub well-untouched : {A : Type 0} (gives : A → Call → A → Type 0) (device 
 well-untouched gives device (outcome.Text text) = none_ends gives device
 well-untouched gives device (outcome.Report text cut) = tt
 well-untouched gives device (outcome.Fault cut) = tt
+
+-- A COMMAND THAT READS NO SOURCE and calls no archive's device
+pub left-done : {L D A : Type 0} {log_seen : L → Seen} {log_gives : L → Call → L → Type 0} {data_seen : D → Seen}
+    {data_gives : D → Call → D → Type 0} {log : L} {store : D} (seen : A → Seen) (gives : A → Call → A → Type 0)
+    (source : SourceSeen) (arch : A) (command : Command) (done : Done L D) → ((to : ℕ) → command ≡ Restore to → ⊥)
+    → IsUnreadEnd log_seen log_gives data_seen data_gives log store command done
+    → IsDoneBy log_seen log_gives data_seen data_gives log store seen gives source source arch command done arch
+left-done seen gives source arch command done never end = record {
+  ends = λ words. end.ends _ refl;
+  restores = λ words to is. absurd (never to is);
+  spares = λ drive is. spares-untouched (unfused seen arch arch) done.outcome refl;
+  untouched = λ calls. refl;
+  well = well-untouched gives arch done.outcome;
+  entered = end.entered;
+  taken = all-left source.left;
+}

@@ -1,5 +1,5 @@
 -- What is asked of a command that was read, and why its script couldn't be.
-use Rattle.std.specs.Prelude.{◌≤◌, Bool, false, Some, None, ◌≡◌, ⊤}
+use Rattle.std.specs.Prelude.{◌≤◌, false, ◌≡◌, ⊤}
 use Rattle.model_base.specs.declared.limits.TheConstants.{MAX_LOG_BLOCKS, MAX_PAGES, MIN_LOG_BLOCKS}
 use Rattle.model_script.specs.declared.asked.Command.{Command}
 use Rattle.model_script.specs.declared.asked.Command.TheVariants.{Format, Run, Crash, Recover, Gen}
@@ -10,11 +10,7 @@ use Rattle.model_report.specs.declared.fault.Fault.{Fault}
 use Rattle.model_report.specs.declared.fault.Fault.TheVariants.{Memory, Source, Fit}
 use Rattle.model_report.specs.declared.fault.Fault.TheVariants as fault
 use Rattle.redo_io.specs.{SourceSeen}
-use Rattle.redo_lab.specs.Asked.{drive_of, IsBadLine, IsLongScript}
-
--- the command runs a script in threads
-abbrev pub runs_in_threads : Command → Bool
-runs_in_threads command = elim (drive_of command) [ None ↦ false | Some drive ↦ drive.threads ]
+use Rattle.redo_lab.specs.Asked.{IsBadLine, IsLongScript}
 
 -- the numbers of the command are within its limits, and it archives nothing but the run of a script
 abbrev pub HasAllowedNumbers : Command → Type 0

@@ -19,6 +19,7 @@ use Rattle.redo_drive.specs.declared.drive.RunEnd.TheVariants.{Done}
 use Rattle.redo_finish.specs.{Finishes}
 use Rattle.redo_logdev.specs.Part as log
 use Rattle.redo_store.specs.declared.opened.Opened as store
+use Rattle.redo_lab.specs.Call.{Unfused, unfused}
 
 -- why no archive is begun on a device that has room: it failed, or memory ran out
 abbrev pub IsUnbegunBy : {A : Type 0} → (A → Seen) → A → Fault → A → Type 0
@@ -79,3 +80,9 @@ pub record ArchivesRan {A : Type 0} (seen : A → Seen) (script : List ScriptLin
   pub later : part.marks.mark ≤ part.marks.asked
   pub flushed : part.marks.asked ≤ run.marks.flushed
   pub checkpoint : run.marks.ckpt ≤ block_of part.marks.mark
+
+-- what is seen from outside of a device that was handed on for a run to be archived, if one was
+abbrev pub IsUnfused : {A : Type 0} → (A → Seen) → (device now : Option A) → Unfused → Type 0
+IsUnfused seen None None archive = ⊤
+IsUnfused seen (Some device) (Some now) archive = archive ≡ unfused seen device now
+IsUnfused seen device now archive = ⊥

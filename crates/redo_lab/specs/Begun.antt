@@ -17,8 +17,8 @@ use Rattle.redo_drive.specs.declared.drive.Driven.{Driven}
 use Rattle.redo_follow.specs.Tallying.{Kept}
 use Rattle.redo_memdisk.specs.{CallsThrough, seen_through}
 use Rattle.redo_memdisk.specs.declared.fused.Fused.{Fused}
-use Rattle.redo_lab.specs.Archiving.{AreBegun, HaveFinished, device_of, failed_of}
-use Rattle.redo_lab.specs.Call.{IsUnfused, LabCall}
+use Rattle.redo_lab.specs.Archiving.{AreBegun, HaveFinished, device_of, failed_of, IsUnfused}
+use Rattle.redo_lab.specs.Call.{LabCall}
 use Rattle.redo_lab.specs.Following.{IsToldOf}
 use Rattle.redo_lab.specs.Untold.{AreUntold}
 use Rattle.redo_lab.specs.Handed.{AreOf}
@@ -31,22 +31,22 @@ use Rattle.redo_lab.specs.declared.playing.Stops.{Stops}
 -- A RUN STANDS READY FOR ITS DRIVE: it may begin, with as many new followers as are asked for and room for what is told of them, and
 -- its archive is new, if a device was handed on for one.
 pub record HasBegun {L D A : Type 0} (seen : A → Seen) (gives : A → device.Call → A → Type 0) (drive : Drive)
-    (script : List ScriptLine) (handed : Option A) (begun : Begun L D A) : Type 0 where
+    (script : List ScriptLine) (arch : Option A) (begun : Begun L D A) : Type 0 where
   pub may : MayBegin begun.opened script drive.log_only
   pub new : AreNewFollowers begun.opened.start begun.followers.items
   pub untold : AreUntold drive.followers begun.followers.items
   pub room : (begun.follows.items ≡ []) × (drive.followers ≤ vec_capacity begun.follows)
-  pub archive : AreBegun seen gives begun.opened handed begun.archive
+  pub archive : AreBegun seen gives begun.opened arch begun.archive
   pub new_archive : IfSome begun.archive (IsNewArchive seen begun.opened script)
 
 -- it does, on a store that stands opened; or the run came to this before its drive
 abbrev pub AreBegunOr : {L D A : Type 0} → (L → Seen) → (D → Seen) → (A → Seen) → (Fused L → Fused D → LabCall) → Command → Drive → Stops
-    → List ScriptLine → (handed : Option A) → Result (Begun L D A) (Ran L D × Option A) → Type 0
-AreBegunOr log_seen data_seen seen call command drive stops script handed (Ok begun) =
-    (now : Option _) → IsUnfused seen handed now (call begun.opened.log.dev begun.opened.store.dev).archive
+    → List ScriptLine → (arch : Option A) → Result (Begun L D A) (Ran L D × Option A) → Type 0
+AreBegunOr log_seen data_seen seen call command drive stops script arch (Ok begun) =
+    (now : Option _) → IsUnfused seen arch now (call begun.opened.log.dev begun.opened.store.dev).archive
     → StandsReady log_seen data_seen (call begun.opened.log.dev begun.opened.store.dev) drive stops script begun.opened
-AreBegunOr log_seen data_seen seen call command drive stops script handed (Err left) =
-    IsUnfused seen handed left.1 (call left.0.log left.0.store).archive → IsRanBy call command drive stops script left.0
+AreBegunOr log_seen data_seen seen call command drive stops script arch (Err left) =
+    IsUnfused seen arch left.1 (call left.0.log left.0.store).archive → IsRanBy call command drive stops script left.0
 
 -- its devices are those that were handed in
 abbrev pub AreGivenOn : {L D A : Type 0} → L → D → Result (Begun L D A) (Ran L D × Option A) → Type 0

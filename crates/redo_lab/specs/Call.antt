@@ -40,12 +40,6 @@ pub record Unfused : Type 0 where
 abbrev pub unfused : {A : Type 0} → (A → Seen) → A → A → Unfused
 unfused seen device now = record { entry = seen device; now = seen now }
 
--- and of one that was handed on for a run to be archived, if one was
-abbrev pub IsUnfused : {A : Type 0} → (A → Seen) → (device now : Option A) → Unfused → Type 0
-IsUnfused seen None None archive = ⊤
-IsUnfused seen (Some device) (Some now) archive = archive ≡ unfused seen device now
-IsUnfused seen device now archive = ⊥
-
 -- the archive's device went from the one to the other by calls of which none answered an error
 abbrev pub IsWellCalled : {A : Type 0} → (A → Call → A → Type 0) → A → A → Type 0
 IsWellCalled gives device now = MakesCalls gives device now (EndWith None)

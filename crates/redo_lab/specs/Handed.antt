@@ -73,15 +73,27 @@ pub record AreOf {L D : Type 0} (log : L) (store : D) (log_now : Fused L) (data_
   pub log_device : entry_of log_now ≡ log
   pub data_device : entry_of data_now ≡ store
 
--- the call that was handed these words, this source and these devices, which are these now, beside the archive's
-abbrev pub call_on : {L D : Type 0} → (L → Seen) → (L → device.Call → L → Type 0) → (D → Seen) → (D → device.Call → D → Type 0) → List (List ℕ)
-    → Unfused → (source source_now : SourceSeen) → L → D → Fused L → Fused D → LabCall
-call_on log_seen log_gives data_seen data_gives words archive source source_now log store log_now data_now = record {
-  words = words;
-  source = source;
-  source_now = source_now;
+-- What a call was handed beside its two devices: its words, the archive's device and its source, with what became of
+-- the two.
+pub record Handed : Type 0 where
+  pub words : List (List ℕ)
+  pub archive : Unfused
+  pub source : SourceSeen
+  pub source_now : SourceSeen
+
+abbrev pub handed_of : List (List ℕ) → Unfused → (source source_now : SourceSeen) → Handed
+handed_of words archive source source_now =
+    record { words = words; archive = archive; source = source; source_now = source_now }
+
+-- the call that was handed this, and these devices, which are these now
+abbrev pub call_on : {L D : Type 0} → (L → Seen) → (L → device.Call → L → Type 0) → (D → Seen)
+    → (D → device.Call → D → Type 0) → Handed → L → D → Fused L → Fused D → LabCall
+call_on log_seen log_gives data_seen data_gives handed log store log_now data_now = record {
+  words = handed.words;
+  source = handed.source;
+  source_now = handed.source_now;
   log = guarded log_seen log log_now;
   store = guarded data_seen store data_now;
-  archive = archive;
+  archive = handed.archive;
   drives = IsDriven log_seen log_gives data_seen data_gives log_now data_now;
 }

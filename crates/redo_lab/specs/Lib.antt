@@ -8,6 +8,7 @@ pub mod Call
 pub mod Cause
 pub mod Crash
 pub mod Devices
+pub mod Done
 pub mod Ending
 pub mod Examples
 pub mod Files

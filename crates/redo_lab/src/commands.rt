@@ -1,30 +1,26 @@
 // A command, done on its devices.
-ghost use Rattle.std.specs.Prelude.{ℕ, List, ◌≡◌, ◌+◌, ◌≤◌, true, false, IfSome, None, Some};
-ghost use Rattle.model_base.specs.declared.limits.TheConstants.{MAX_SCRIPT};
-ghost use Rattle.model_script.specs.declared.asked.Command.TheVariants.{Restore, Run};
+ghost use Rattle.std.specs.Prelude.{◌≡◌, ◌≤◌, IfSome, None};
 ghost use Rattle.model_script.specs.declared.asked.Drive.{Drive as Asked};
 ghost use Rattle.model_script.specs.declared.words.TheConstants.{MAX_WORKERS};
-ghost use Rattle.redo_io.specs.{SourceSeen, TakesAtMost};
-ghost use Rattle.redo_io.specs.declared.read.TheConstants.{PIECE};
-ghost use Rattle.redo_lab.specs.Asked.{IsScriptRead, calls_archive};
-ghost use Rattle.redo_lab.specs.Allowed.{HasAllowedNumbers, runs_in_threads};
-ghost use Rattle.redo_lab.specs.Call.{IsWellCalled, Unfused, unfused};
-ghost use Rattle.redo_lab.specs.Handed.{AreOf, call_on};
-ghost use Rattle.redo_lab.specs.Ending.{EndsWith, OnlyReadsArchive, SparesArchive, WhereDone};
+ghost use Rattle.redo_lab.specs.Asked.{IsScriptRead};
+ghost use Rattle.redo_lab.specs.Allowed.{HasAllowedNumbers};
+ghost use Rattle.redo_lab.specs.Call.{Unfused};
+ghost use Rattle.redo_lab.specs.Handed.{AreOf, call_on, Handed};
+ghost use Rattle.redo_lab.specs.Ending.{EndsWith, SparesArchive, WhereDone};
 ghost use Rattle.redo_lab.specs.Runs.{IsRanBy, IsUncut, SparedBy, command_with, stops_of};
+ghost use Rattle.redo_lab.specs.Done.{IsDoneBy};
 
 use crate::archiving::{hand_on, take_back};
-use crate::asked::Scripted;
 use crate::crash_command::{Crashing, crash_command};
 use crate::gen_command::gen_command;
 use crate::laws::laws;
 use crate::outcome::{Done, unasked};
-use crate::playing::{Ran, Stops, by_turns_with, in_threads};
+use crate::playing::{Ran, Stops, play};
 use crate::restore_command::restore_command;
 use crate::run_command::run_command;
 use crate::script::read_script;
 use crate::simple::{format_devices, print_pages, print_store};
-use model_script::{Command, Script, read_lines_are_ranged};
+use model_script::{Command, Drive, Script, read_lines_are_ranged};
 use redo_disk::Sectors;
 use redo_io::Source;
 use redo_threads::Gate;
@@ -54,10 +50,10 @@ fn after_run<R: Threads + Sync, L: Sectors, D: Sectors>(
     crash: Option<Crashing>,
 ) -> Done<L, D>
     requires workers { IfSome crash (λ crash. (1 ≤ crash.workers) × (crash.workers ≤ MAX_WORKERS)) }
-    ensures ends { (asked : Asked) (words : List (List ℕ)) (archive : Unfused) (source source_now : SourceSeen) (log : L) (store : D)
-        → IsRanBy (call_on L.seen L.gives D.seen D.gives words archive source source_now log store) (command_with asked crash) asked (stops_of crash) script.now ran
-        → IsScriptRead source source_now script.now → HasAllowedNumbers (command_with asked crash)
-        → EndsWith (call_on L.seen L.gives D.seen D.gives words archive source source_now log store result.log result.store) (command_with asked crash) result.outcome }
+    ensures ends { (asked : Asked) (handed : Handed) (log : L) (store : D)
+        → IsRanBy (call_on L.seen L.gives D.seen D.gives handed log store) (command_with asked crash) asked (stops_of crash) script.now ran
+        → IsScriptRead handed.source handed.source_now script.now → HasAllowedNumbers (command_with asked crash)
+        → EndsWith (call_on L.seen L.gives D.seen D.gives handed log store result.log result.store) (command_with asked crash) result.outcome }
     ensures spares { crash ≡ None → (archive : Unfused) → SparedBy ran.course archive → SparesArchive archive result.outcome }
     ensures uncut { crash ≡ None → WhereDone result.outcome (IsUncut ran.course) }
     ensures entered { (log : L) (store : D) → AreOf log store ran.log ran.store → AreOf log store result.log result.store }
@@ -68,42 +64,8 @@ fn after_run<R: Threads + Sync, L: Sectors, D: Sectors>(
     }
 }
 
-/// Runs the script of the source by turns, and archives the run on this device where that is asked.
-fn source_by_turns<R: Threads + Sync, S: Source, L: Sectors, D: Sectors, A: Sectors>(
-    rt: &R,
-    alloc: Global,
-    src: &mut S,
-    asked: Scripted,
-    log: L,
-    store: D,
-    arch: A,
-) -> (Done<L, D>, A)
-    requires within { HasAllowedNumbers (command_with asked.drive asked.crash) }
-    requires by_turns { asked.drive.threads ≡ false }
-    ensures ends { (words : List (List ℕ))
-        → EndsWith (call_on L.seen L.gives D.seen D.gives words (unfused A.seen arch result.1) (S.seen src.old) (S.seen src.new) log store result.0.log result.0.store)
-        (command_with asked.drive asked.crash) result.0.outcome }
-    ensures archive { SparesArchive (unfused A.seen arch result.1) result.0.outcome × (asked.drive.archive ≡ false → result.1 ≡ arch) }
-    ensures well { WhereDone result.0.outcome (IsWellCalled A.gives arch result.1) }
-    ensures entered { AreOf log store result.0.log result.0.store }
-    ensures taken { TakesAtMost (MAX_SCRIPT + PIECE) (S.seen src.old).left (S.seen src.new).left }
-{
-    laws();
-    read_lines_are_ranged();
-    match read_script(alloc, src) {
-        Ok(script) => {
-            let stops = stops_of(asked.crash);
-            let (on, kept) = hand_on(asked.drive.archive, arch);
-            let (ran, left) = by_turns_with(alloc, &script, &asked.drive, stops, log, store, on);
-            let done = after_run(rt, alloc, &script, ran, asked.crash);
-            (done, take_back(left, kept))
-        }
-        Err(fault) => (unasked(fault, log, store), arch),
-    }
-}
-
-/// Runs the script of the source in threads, and archives the run on this device where that is asked. A gate may hold the users.
-pub(crate) fn source_in_threads<
+/// Runs the script of the source by this drive, and archives the run on this device where that is asked.
+fn source_command<
     R: Threads + Wait + Sync,
     S: Source,
     L: Sectors + Send,
@@ -115,68 +77,50 @@ pub(crate) fn source_in_threads<
     alloc: Global,
     src: &mut S,
     gate: &G,
-    asked: Scripted,
+    drive: Drive,
+    crash: Option<Crashing>,
     log: L,
     store: D,
     arch: A,
 ) -> (Done<L, D>, A)
-    requires within { HasAllowedNumbers (command_with asked.drive asked.crash) }
-    requires in_threads { asked.drive.threads ≡ true }
-    ensures ends { (words : List (List ℕ))
-        → EndsWith (call_on L.seen L.gives D.seen D.gives words (unfused A.seen arch result.1) (S.seen src.old) (S.seen src.new) log store result.0.log result.0.store)
-        (command_with asked.drive asked.crash) result.0.outcome }
-    ensures archive { SparesArchive (unfused A.seen arch result.1) result.0.outcome × (asked.drive.archive ≡ false → result.1 ≡ arch) }
-    ensures well { WhereDone result.0.outcome (IsWellCalled A.gives arch result.1) }
-    ensures entered { AreOf log store result.0.log result.0.store }
-    ensures taken { TakesAtMost (MAX_SCRIPT + PIECE) (S.seen src.old).left (S.seen src.new).left }
+    requires within { HasAllowedNumbers (command_with drive crash) }
+    ensures { IsDoneBy L.seen L.gives D.seen D.gives log store A.seen A.gives (S.seen src.old) (S.seen src.new) arch (command_with drive crash) result.0 result.1 }
 {
     laws();
     read_lines_are_ranged();
     match read_script(alloc, src) {
         Ok(script) => {
-            let stops = stops_of(asked.crash);
-            let (on, kept) = hand_on(asked.drive.archive, arch);
-            let (ran, left) = in_threads(
-                rt,
-                alloc,
-                &script,
-                &asked.drive,
-                gate,
-                stops,
-                log,
-                store,
-                on,
-            );
-            let done = after_run(rt, alloc, &script, ran, asked.crash);
+            let stops = stops_of(crash);
+            let (on, kept) = hand_on(drive.archive, arch);
+            let (ran, left) = play(rt, alloc, &script, &drive, gate, stops, log, store, on);
+            let done = after_run(rt, alloc, &script, ran, crash);
             (done, take_back(left, kept))
         }
         Err(fault) => (unasked(fault, log, store), arch),
     }
 }
 
-/// A command that runs no script in threads, done on two devices; and the archive's device, which `restore` reads, and on which a
-/// run may be archived.
-pub(crate) fn done<R: Threads + Sync, S: Source, L: Sectors, D: Sectors, A: Sectors>(
+/// A command, done on two devices; and the archive's device, which `restore` reads, and on which a run may be archived. A gate may
+/// hold the users of a run in threads.
+pub(crate) fn done<
+    R: Threads + Wait + Sync,
+    S: Source,
+    L: Sectors + Send,
+    D: Sectors + Send,
+    A: Sectors + Send,
+    G: Gate,
+>(
     rt: &R,
     alloc: Global,
     command: Command,
     src: &mut S,
+    gate: &G,
     log: L,
     store: D,
     arch: A,
 ) -> (Done<L, D>, A)
     requires within { HasAllowedNumbers command }
-    requires by_turns { runs_in_threads command ≡ false }
-    ensures ends { (words : List (List ℕ))
-        → EndsWith (call_on L.seen L.gives D.seen D.gives words (unfused A.seen arch result.1) (S.seen src.old) (S.seen src.new) log store result.0.log result.0.store)
-        command result.0.outcome }
-    ensures restores { (words : List (List ℕ)) (to : ℕ) → command ≡ Restore to
-        → OnlyReadsArchive (call_on L.seen L.gives D.seen D.gives words (unfused A.seen arch result.1) (S.seen src.old) (S.seen src.new) log store result.0.log result.0.store) }
-    ensures spares { (drive : Asked) → command ≡ Run drive → SparesArchive (unfused A.seen arch result.1) result.0.outcome }
-    ensures archive { (calls_archive (Some command) ≡ false → result.1 ≡ arch)
-        × WhereDone result.0.outcome (IsWellCalled A.gives arch result.1) }
-    ensures entered { AreOf log store result.0.log result.0.store }
-    ensures taken { TakesAtMost (MAX_SCRIPT + PIECE) (S.seen src.old).left (S.seen src.new).left }
+    ensures { IsDoneBy L.seen L.gives D.seen D.gives log store A.seen A.gives (S.seen src.old) (S.seen src.new) arch command result.0 result.1 }
 {
     match command {
         Command::Format {
@@ -189,8 +133,7 @@ pub(crate) fn done<R: Threads + Sync, S: Source, L: Sectors, D: Sectors, A: Sect
             arch,
         ),
         Command::Run { drive } => {
-            let asked = Scripted { drive, crash: None };
-            source_by_turns(rt, alloc, src, asked, log, store, arch)
+            source_command(rt, alloc, src, gate, drive, None, log, store, arch)
         }
         Command::Crash {
             drive,
@@ -208,8 +151,7 @@ pub(crate) fn done<R: Threads + Sync, S: Source, L: Sectors, D: Sectors, A: Sect
                 pick,
                 workers,
             });
-            let asked = Scripted { drive, crash };
-            source_by_turns(rt, alloc, src, asked, log, store, arch)
+            source_command(rt, alloc, src, gate, drive, crash, log, store, arch)
         }
         Command::Recover { workers } => (print_pages(rt, alloc, workers, log, store), arch),
         Command::Dump { why } => (print_store(alloc, why, log, store), arch),
@@ -221,7 +163,7 @@ pub(crate) fn done<R: Threads + Sync, S: Source, L: Sectors, D: Sectors, A: Sect
             run,
             max,
         } => {
-            let done = gen_command(alloc, seed, users, groups, run, max, log, store);
+            let done = gen_command(rt, alloc, gate, seed, users, groups, run, max, log, store);
             (done, arch)
         }
     }

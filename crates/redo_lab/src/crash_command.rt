@@ -1,14 +1,12 @@
 // The command `crash`.
-ghost use Rattle.std.specs.Prelude.{ℕ, ◌≤◌, List, Some, IfOk, length, ◌≡◌, false};
+ghost use Rattle.std.specs.Prelude.{◌≤◌, Some, IfOk, length, ◌≡◌, false};
 ghost use Rattle.model_base.specs.declared.limits.TheConstants.{MAX_PAGES};
 ghost use Rattle.model_script.specs.declared.asked.Drive.{Drive as Asked};
 ghost use Rattle.model_script.specs.declared.words.TheConstants.{MAX_WORKERS};
-ghost use Rattle.redo_io.specs.{SourceSeen};
 ghost use Rattle.redo_drive.specs.declared.drive.RunEnd.TheVariants as ended;
 ghost use Rattle.redo_memdisk.specs.{entry_of};
 ghost use Rattle.redo_lab.specs.Asked.{IsScriptRead};
-ghost use Rattle.redo_lab.specs.Call.{Unfused};
-ghost use Rattle.redo_lab.specs.Handed.{AreOf, call_on};
+ghost use Rattle.redo_lab.specs.Handed.{AreOf, call_on, Handed};
 ghost use Rattle.redo_lab.specs.Ending.{EndsWith};
 ghost use Rattle.redo_lab.specs.Runs.{IsLeftBy, IsRanBy, IsReportOf, IsToldRightly, command_with, played_follows, played_run};
 
@@ -66,14 +64,14 @@ fn crash_and_read<R: Threads + Sync, L: Sectors, D: Sectors>(
     store: &mut Fused<D>,
 ) -> Outcome
     requires { (1 ≤ crash.workers) × (crash.workers ≤ MAX_WORKERS) }
-    ensures ends { (asked : Asked) (words : List (List ℕ)) (archive : Unfused) (source source_now : SourceSeen) (log_entry : L) (data_entry : D)
-        → IsScriptRead source source_now script.now
-        → IsLeftBy (call_on L.seen L.gives D.seen D.gives words archive source source_now log_entry data_entry log.old store.old) (command_with asked (Some crash)) asked crash.stops
+    ensures ends { (asked : Asked) (handed : Handed) (log_entry : L) (data_entry : D)
+        → IsScriptRead handed.source handed.source_now script.now
+        → IsLeftBy (call_on L.seen L.gives D.seen D.gives handed log_entry data_entry log.old store.old) (command_with asked (Some crash)) asked crash.stops
         script.now (played_run played.entry) (played_follows played.entry) ended.Done
-        → IsToldRightly (call_on L.seen L.gives D.seen D.gives words archive source source_now log_entry data_entry log.old store.old) asked
+        → IsToldRightly (call_on L.seen L.gives D.seen D.gives handed log_entry data_entry log.old store.old) asked
         script.now (played_run played.entry) (played_follows played.entry)
         → asked.archive ≡ false
-        → EndsWith (call_on L.seen L.gives D.seen D.gives words archive source source_now log_entry data_entry log.new store.new) (command_with asked (Some crash)) result }
+        → EndsWith (call_on L.seen L.gives D.seen D.gives handed log_entry data_entry log.new store.new) (command_with asked (Some crash)) result }
     ensures entered { AreOf (entry_of log.old) (entry_of store.old) log.new store.new }
 {
     laws();
@@ -95,10 +93,10 @@ pub(crate) fn crash_command<R: Threads + Sync, L: Sectors, D: Sectors>(
     crash: Crashing,
 ) -> Done<L, D>
     requires { (1 ≤ crash.workers) × (crash.workers ≤ MAX_WORKERS) }
-    ensures ends { (asked : Asked) (words : List (List ℕ)) (archive : Unfused) (source source_now : SourceSeen) (log : L) (store : D)
-        → IsRanBy (call_on L.seen L.gives D.seen D.gives words archive source source_now log store) (command_with asked (Some crash)) asked crash.stops script.now ran
-        → IsScriptRead source source_now script.now → asked.archive ≡ false
-        → EndsWith (call_on L.seen L.gives D.seen D.gives words archive source source_now log store result.log result.store) (command_with asked (Some crash)) result.outcome }
+    ensures ends { (asked : Asked) (handed : Handed) (log : L) (store : D)
+        → IsRanBy (call_on L.seen L.gives D.seen D.gives handed log store) (command_with asked (Some crash)) asked crash.stops script.now ran
+        → IsScriptRead handed.source handed.source_now script.now → asked.archive ≡ false
+        → EndsWith (call_on L.seen L.gives D.seen D.gives handed log store result.log result.store) (command_with asked (Some crash)) result.outcome }
     ensures entered { (log : L) (store : D) → AreOf log store ran.log ran.store → AreOf log store result.log result.store }
 {
     let Ran {

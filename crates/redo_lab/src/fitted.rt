@@ -1,5 +1,5 @@
 // A store that stands opened for the run of a script: both devices are prepared, and the script is judged.
-ghost use Rattle.std.specs.Prelude.{◌≡◌, ◌≤◌, ◌<◌, ◌^◌, ℕ, List, IfOk};
+ghost use Rattle.std.specs.Prelude.{◌≡◌, ◌≤◌, ◌<◌, ◌^◌, IfOk};
 ghost use Rattle.std.specs.List.{AllByRecursion};
 ghost use Rattle.model_base.specs.{IsWithinLimits};
 ghost use Rattle.model_log.specs.declared.layout.TheConstants.{BLOCK_HEADER};
@@ -8,14 +8,12 @@ ghost use Rattle.model_script.specs.declared.asked.Command.{Command};
 ghost use Rattle.model_script.specs.declared.asked.Drive.{Drive as Asked};
 ghost use Rattle.redo_drive.specs.{room_from};
 ghost use Rattle.redo_drive.specs.Startable.{MayBegin};
-ghost use Rattle.redo_io.specs.{SourceSeen};
 ghost use Rattle.redo_memdisk.specs.{entry_of};
 ghost use Rattle.redo_lab.specs.declared.playing.Course.TheVariants as ended;
 ghost use Rattle.redo_lab.specs.declared.playing.Stops.{Stops};
 ghost use Rattle.redo_lab.specs.Devices.{AreArmed, AreAsArmed};
-ghost use Rattle.redo_lab.specs.Call.{Unfused};
 ghost use Rattle.redo_lab.specs.Cause.{archive_size};
-ghost use Rattle.redo_lab.specs.Handed.{call_on};
+ghost use Rattle.redo_lab.specs.Handed.{call_on, Handed};
 ghost use Rattle.redo_lab.specs.Runs.{AreEntered, AreReady, CommandRuns, unopened};
 
 use crate::faults::fault_of;
@@ -89,11 +87,11 @@ fn open_fitted<L: Sectors, D: Sectors>(
     requires { AllByRecursion IsScriptLine script.now }
     ensures begins { IfOk result (λ opened. MayBegin opened script.now log_only) }
     ensures archive_fits { IfOk result (λ opened. ArchiveFits opened.shape opened.start archive_len script.now) }
-    ensures ready { (words : List (List ℕ)) (archive : Unfused) (source source_now : SourceSeen) (log_entry : L) (data_entry : D) (command : Command) (asked : Asked) (stops : Stops)
-        → CommandRuns source source_now command asked script.now → log_only ≡ asked.log_only → archive_len ≡ archive_size archive asked
-        → AreArmed (call_on L.seen L.gives D.seen D.gives words archive source source_now log_entry data_entry log store) stops
-        → AreAsArmed (call_on L.seen L.gives D.seen D.gives words archive source source_now log_entry data_entry log store)
-        → AreReady L.seen D.seen (call_on L.seen L.gives D.seen D.gives words archive source source_now log_entry data_entry) command asked stops script.now result }
+    ensures ready { (handed : Handed) (log_entry : L) (data_entry : D) (command : Command) (asked : Asked) (stops : Stops)
+        → CommandRuns handed.source handed.source_now command asked script.now → log_only ≡ asked.log_only → archive_len ≡ archive_size handed.archive asked
+        → AreArmed (call_on L.seen L.gives D.seen D.gives handed log_entry data_entry log store) stops
+        → AreAsArmed (call_on L.seen L.gives D.seen D.gives handed log_entry data_entry log store)
+        → AreReady L.seen D.seen (call_on L.seen L.gives D.seen D.gives handed log_entry data_entry) command asked stops script.now result }
     ensures entered { AreEntered (entry_of log) (entry_of store) result }
 {
     laws();
@@ -140,9 +138,9 @@ pub(crate) fn ready<L: Sectors, D: Sectors>(
     requires { AllByRecursion IsScriptLine script.now }
     ensures begins { IfOk result (λ opened. MayBegin opened script.now log_only) }
     ensures archive_fits { IfOk result (λ opened. ArchiveFits opened.shape opened.start archive_len script.now) }
-    ensures ready { (words : List (List ℕ)) (archive : Unfused) (source source_now : SourceSeen) (command : Command) (asked : Asked)
-        → CommandRuns source source_now command asked script.now → log_only ≡ asked.log_only → archive_len ≡ archive_size archive asked
-        → AreReady L.seen D.seen (call_on L.seen L.gives D.seen D.gives words archive source source_now log store) command asked stops script.now result }
+    ensures ready { (handed : Handed) (command : Command) (asked : Asked)
+        → CommandRuns handed.source handed.source_now command asked script.now → log_only ≡ asked.log_only → archive_len ≡ archive_size handed.archive asked
+        → AreReady L.seen D.seen (call_on L.seen L.gives D.seen D.gives handed log store) command asked stops script.now result }
     ensures entered { AreEntered log store result }
 {
     let mut log = Fused::plain(log);

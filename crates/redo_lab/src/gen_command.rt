@@ -6,20 +6,19 @@ ghost use Rattle.model_script.specs.declared.asked.Command.TheVariants.{Gen};
 ghost use Rattle.model_script.specs.{generated_lines, IsScriptLine};
 ghost use Rattle.model_script.specs.declared.misfit.TheConstants.{MAX_USERS};
 ghost use Rattle.model_script.specs.declared.script.ScriptLine.{ScriptLine};
-ghost use Rattle.redo_io.specs.{SourceSeen};
 ghost use Rattle.redo_memdisk.specs.{entry_of};
 ghost use Rattle.redo_recover.specs.{reading_of};
 ghost use Rattle.redo_lab.specs.Asked.{drive_of_seed};
 ghost use Rattle.redo_lab.specs.declared.playing.Course.TheVariants as course;
-ghost use Rattle.redo_lab.specs.Call.{Unfused};
-ghost use Rattle.redo_lab.specs.Handed.{AreOf, call_on};
+ghost use Rattle.redo_lab.specs.Handed.{AreOf, call_on, Handed};
 ghost use Rattle.redo_lab.specs.Ending.{EndsWith};
 ghost use Rattle.redo_lab.specs.Runs.{ComesTo, CommandRuns, ran_of, stops_of, summary_of};
+ghost use Rattle.redo_lab.specs.Done.{IsUnreadEnd};
 
 use crate::faults::fault_of;
 use crate::laws::laws;
 use crate::outcome::{Done, Outcome, unasked};
-use crate::playing::{Course, Played, Ran, Stops, by_turns};
+use crate::playing::{Course, Played, Ran, Stops, play_unarchived};
 use crate::reading::contents;
 use model_report::Fault;
 use model_script::{Drive, Script};
@@ -30,7 +29,10 @@ use redo_memdisk::Fused;
 use redo_recover::{Recovered, recover};
 use redo_report::summary;
 use redo_script::{generate, generate_lines, generated_lines_are_ranged};
+use redo_threads::Gate;
 use std::alloc::Global;
+use std::sync::Wait;
+use std::thread::Threads;
 
 /// Prints the script of the seed.
 fn print_script<L: Sectors, D: Sectors>(
@@ -43,9 +45,7 @@ fn print_script<L: Sectors, D: Sectors>(
 ) -> Done<L, D>
     requires some_users { 1 ≤ users }
     requires few_users { users ≤ MAX_USERS }
-    ensures ends { (words : List (List ℕ)) (archive : Unfused) (source : SourceSeen) (max : ℕ)
-        → EndsWith (call_on L.seen L.gives D.seen D.gives words archive source source log store result.log result.store) (Gen seed users groups false max) result.outcome }
-    ensures entered { AreOf log store result.log result.store }
+    ensures { (max : ℕ) → IsUnreadEnd L.seen L.gives D.seen D.gives log store (Gen seed users groups false max) result }
 {
     Done {
         outcome: Outcome::of_text(generate(alloc, seed, users, groups)),
@@ -76,11 +76,11 @@ fn read_after<L: Sectors, D: Sectors>(
     log: &mut Fused<L>,
     store: &mut Fused<D>,
 ) -> Outcome
-    ensures ends { (words : List (List ℕ)) (archive : Unfused) (source : SourceSeen) (log_entry : L) (data_entry : D) (seed users groups max : ℕ) (script : List ScriptLine)
-        → CommandRuns source source (Gen seed users groups true max) (drive_of_seed seed max) script
-        → ComesTo (call_on L.seen L.gives D.seen D.gives words archive source source log_entry data_entry log.old store.old) (Gen seed users groups true max) (drive_of_seed seed max)
+    ensures ends { (handed : Handed) (log_entry : L) (data_entry : D) (seed users groups max : ℕ) (script : List ScriptLine)
+        → CommandRuns handed.source handed.source_now (Gen seed users groups true max) (drive_of_seed seed max) script
+        → ComesTo (call_on L.seen L.gives D.seen D.gives handed log_entry data_entry log.old store.old) (Gen seed users groups true max) (drive_of_seed seed max)
         (stops_of None) script (course.Played played.now None)
-        → EndsWith (call_on L.seen L.gives D.seen D.gives words archive source source log_entry data_entry log.new store.new) (Gen seed users groups true max) result }
+        → EndsWith (call_on L.seen L.gives D.seen D.gives handed log_entry data_entry log.new store.new) (Gen seed users groups true max) result }
     ensures entered { AreOf (entry_of log.old) (entry_of store.old) log.new store.new }
 {
     laws();
@@ -106,8 +106,10 @@ fn drive_of_seed(seed: u64, max: u64) -> Drive
 }
 
 /// Runs the script of the seed by its turns, and sums the run up; of a fault there is its line alone.
-fn run_script<L: Sectors, D: Sectors>(
+fn run_script<R: Threads + Wait + Sync, L: Sectors + Send, D: Sectors + Send, G: Gate>(
+    rt: &R,
     alloc: Global,
+    gate: &G,
     script: &Script,
     seed: u64,
     max: u64,
@@ -115,9 +117,7 @@ fn run_script<L: Sectors, D: Sectors>(
     store: D,
 ) -> Done<L, D>
     requires { AllByRecursion IsScriptLine script.now }
-    ensures ends { (words : List (List ℕ)) (archive : Unfused) (source : SourceSeen) (users groups : ℕ) → script.now ≡ generated_lines seed users groups
-        → EndsWith (call_on L.seen L.gives D.seen D.gives words archive source source log store result.log result.store) (Gen seed users groups true max) result.outcome }
-    ensures entered { AreOf log store result.log result.store }
+    ensures { (users groups : ℕ) → script.now ≡ generated_lines seed users groups → IsUnreadEnd L.seen L.gives D.seen D.gives log store (Gen seed users groups true max) result }
 {
     laws();
     let drive = drive_of_seed(seed, max);
@@ -129,7 +129,7 @@ fn run_script<L: Sectors, D: Sectors>(
         course,
         mut log,
         mut store,
-    } = by_turns(alloc, script, &drive, stops, log, store);
+    } = play_unarchived(rt, alloc, script, &drive, gate, stops, log, store);
     let outcome = match course {
         Course::Ended(fault) | Course::Stopped(fault) => Outcome::Fault(fault),
         Course::Played(played, ended) => match ended {
@@ -145,8 +145,10 @@ fn run_script<L: Sectors, D: Sectors>(
 }
 
 /// Generates the script of the seed, and runs it by the turns of the same seed.
-fn run_seed<L: Sectors, D: Sectors>(
+fn run_seed<R: Threads + Wait + Sync, L: Sectors + Send, D: Sectors + Send, G: Gate>(
+    rt: &R,
     alloc: Global,
+    gate: &G,
     seed: u64,
     users: u32,
     groups: u64,
@@ -156,21 +158,21 @@ fn run_seed<L: Sectors, D: Sectors>(
 ) -> Done<L, D>
     requires some_users { 1 ≤ users }
     requires few_users { users ≤ MAX_USERS }
-    ensures ends { (words : List (List ℕ)) (archive : Unfused) (source : SourceSeen)
-        → EndsWith (call_on L.seen L.gives D.seen D.gives words archive source source log store result.log result.store) (Gen seed users groups true max) result.outcome }
-    ensures entered { AreOf log store result.log result.store }
+    ensures { IsUnreadEnd L.seen L.gives D.seen D.gives log store (Gen seed users groups true max) result }
 {
     laws();
     generated_lines_are_ranged();
     match generate_lines(alloc, seed, users, groups) {
-        Ok(script) => run_script(alloc, &script, seed, max, log, store),
+        Ok(script) => run_script(rt, alloc, gate, &script, seed, max, log, store),
         Err(_) => unasked(Fault::Memory, log, store),
     }
 }
 
 /// Generates the script of the seed, and prints it or runs it. It reads no source.
-pub(crate) fn gen_command<L: Sectors, D: Sectors>(
+pub(crate) fn gen_command<R: Threads + Wait + Sync, L: Sectors + Send, D: Sectors + Send, G: Gate>(
+    rt: &R,
     alloc: Global,
+    gate: &G,
     seed: u64,
     users: u32,
     groups: u64,
@@ -181,12 +183,10 @@ pub(crate) fn gen_command<L: Sectors, D: Sectors>(
 ) -> Done<L, D>
     requires some_users { 1 ≤ users }
     requires few_users { users ≤ MAX_USERS }
-    ensures ends { (words : List (List ℕ)) (archive : Unfused) (source : SourceSeen)
-        → EndsWith (call_on L.seen L.gives D.seen D.gives words archive source source log store result.log result.store) (Gen seed users groups run max) result.outcome }
-    ensures entered { AreOf log store result.log result.store }
+    ensures { IsUnreadEnd L.seen L.gives D.seen D.gives log store (Gen seed users groups run max) result }
 {
     if run {
-        run_seed(alloc, seed, users, groups, max, log, store)
+        run_seed(rt, alloc, gate, seed, users, groups, max, log, store)
     } else {
         print_script(alloc, seed, users, groups, log, store)
     }

@@ -6,7 +6,7 @@ ghost use Rattle.redo_lab.specs.Asked.{calls_archive, command_of};
 ghost use Rattle.redo_lab.specs.Call.{IsWellCalled, unfused};
 ghost use Rattle.redo_lab.specs.Ending.{IsCallOf};
 ghost use Rattle.redo_lab.specs.Files.{IsAtRestWith, IsUncalled};
-ghost use Rattle.redo_lab.specs.Handed.{AreOf, call_on};
+ghost use Rattle.redo_lab.specs.Handed.{AreOf, call_on, handed_of};
 
 use crate::ended::Ended;
 use crate::lab_call::lab;
@@ -43,8 +43,8 @@ pub fn lab_in_files<
     requires data_uncalled { IsUncalled store }
     requires archive_uncalled { IsUncalled arch }
     ensures call { IsCallOf (call_on (file_seen H.Contents.bytes) FileGives (file_seen K.Contents.bytes) FileGives
-        (map (λ word. string_bytes word) words.now) (unfused (file_seen T.Contents.bytes) arch.entry result.arch)
-        (S.seen src.old) (S.seen src.new) log.entry store.entry result.log result.store)
+        (handed_of (map (λ word. string_bytes word) words.now) (unfused (file_seen T.Contents.bytes) arch.entry result.arch)
+        (S.seen src.old) (S.seen src.new)) log.entry store.entry result.log result.store)
         (IsWellCalled FileGives arch.entry result.arch) (O.seen out.old) (O.seen out.new) result.status }
     ensures untouched { calls_archive (command_of (map (λ word. string_bytes word) words.now)) ≡ false → result.arch ≡ arch.entry }
     ensures entered { AreOf log.entry store.entry result.log result.store }

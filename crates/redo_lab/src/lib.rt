@@ -7,6 +7,7 @@ mod asked;
 mod closing;
 mod commands;
 mod crash_command;
+mod drives;
 mod ended;
 mod examples;
 mod faults;
@@ -28,13 +29,12 @@ mod script;
 mod shapes;
 mod simple;
 mod start;
-mod turns;
 
 pub use ended::Ended;
 pub use examples::{
     late_arming_is_refused, other_stop_is_refused, stop_for_nothing_is_refused, stops_are_admitted,
 };
 pub use in_files::lab_in_files;
-pub use lab_call::{lab, lab_turns};
+pub use lab_call::lab;
 pub use printing::print_fault;
 pub use shapes::{ARCHIVE_LENGTH, LOG_LENGTH, STORE_LENGTH};

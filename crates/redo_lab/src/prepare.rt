@@ -1,13 +1,11 @@
 // The devices before a run: formatted, where the log device is unused.
-ghost use Rattle.std.specs.Prelude.{◌≡◌, ◌≤◌, ◌↔◌, ℕ, List, IsTrue, IfOk, IfSome, replicate};
+ghost use Rattle.std.specs.Prelude.{◌≡◌, ◌≤◌, ◌↔◌, IsTrue, IfOk, IfSome, replicate};
 ghost use Rattle.model_base.specs.declared.limits.TheConstants.{BLOCK_SIZE};
 ghost use Rattle.model_log.specs.declared.layout.TheConstants.{HEADER_BYTES};
 ghost use Rattle.model_store.specs.{IsUnused};
 ghost use Rattle.redo_disk.specs.{MakesCalls, error_of};
-ghost use Rattle.redo_io.specs.{SourceSeen};
 ghost use Rattle.redo_lab.specs.Devices.{IsFirstRead};
-ghost use Rattle.redo_lab.specs.Call.{Unfused};
-ghost use Rattle.redo_lab.specs.Handed.{AreOf, call_on};
+ghost use Rattle.redo_lab.specs.Handed.{AreOf, call_on, Handed};
 ghost use Rattle.redo_lab.specs.Runs.{Prepares};
 ghost use Rattle.redo_memdisk.specs.{entry_of, fresh, fuse_of, inner_of};
 
@@ -56,8 +54,8 @@ pub(crate) fn prepare<L: Sectors, D: Sectors>(
 ) -> Result<(), RecFault>
     requires log_fresh { fuse_of log.old ≡ fresh }
     requires data_fresh { fuse_of store.old ≡ fresh }
-    ensures prepares { (words : List (List ℕ)) (archive : Unfused) (source source_now : SourceSeen)
-        → Prepares (call_on L.seen L.gives D.seen D.gives words archive source source_now (inner_of log.old) (inner_of store.old) log.new store.new) result }
+    ensures prepares { (handed : Handed)
+        → Prepares (call_on L.seen L.gives D.seen D.gives handed (inner_of log.old) (inner_of store.old) log.new store.new) result }
     ensures entered { AreOf (entry_of log.old) (entry_of store.old) log.new store.new }
 {
     laws();

@@ -1,12 +1,10 @@
 // The command `restore`.
-ghost use Rattle.std.specs.Prelude.{ℕ, List, ◌≡◌, ◌≤◌, IfOk, length};
+ghost use Rattle.std.specs.Prelude.{◌≡◌, ◌≤◌, IfOk, length};
 ghost use Rattle.model_report.specs.{restored_text};
 ghost use Rattle.model_base.specs.declared.limits.TheConstants.{MAX_PAGES};
 ghost use Rattle.model_script.specs.declared.asked.Command.TheVariants.{Restore};
 ghost use Rattle.redo_io.specs.{SourceSeen};
-ghost use Rattle.redo_lab.specs.Call.{IsWellCalled, unfused};
-ghost use Rattle.redo_lab.specs.Ending.{EndsWith, OnlyReadsArchive, WhereDone};
-ghost use Rattle.redo_lab.specs.Handed.{AreOf, call_on};
+ghost use Rattle.redo_lab.specs.Done.{IsDoneBy};
 
 use crate::faults::unrestored;
 use crate::outcome::{Done, Outcome};
@@ -37,12 +35,7 @@ pub(crate) fn restore_command<L: Sectors, D: Sectors, A: Sectors>(
     store: D,
     arch: A,
 ) -> (Done<L, D>, A)
-    ensures ends { (words : List (List ℕ)) (source : SourceSeen)
-        → EndsWith (call_on L.seen L.gives D.seen D.gives words (unfused A.seen arch result.1) source source log store result.0.log result.0.store) (Restore to) result.0.outcome }
-    ensures restores { (words : List (List ℕ)) (source source_now : SourceSeen)
-        → OnlyReadsArchive (call_on L.seen L.gives D.seen D.gives words (unfused A.seen arch result.1) source source_now log store result.0.log result.0.store) }
-    ensures well { WhereDone result.0.outcome (IsWellCalled A.gives arch result.1) }
-    ensures entered { AreOf log store result.0.log result.0.store }
+    ensures { (source : SourceSeen) → IsDoneBy L.seen L.gives D.seen D.gives log store A.seen A.gives source source arch (Restore to) result.0 result.1 }
 {
     one_restore();
     let mut arch = arch;

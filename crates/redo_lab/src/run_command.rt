@@ -1,11 +1,10 @@
 // The command `run`.
-ghost use Rattle.std.specs.Prelude.{ℕ, List, None};
+ghost use Rattle.std.specs.Prelude.{None};
 ghost use Rattle.model_script.specs.declared.asked.Command.TheVariants.{Run};
 ghost use Rattle.model_script.specs.declared.asked.Drive.{Drive as Asked};
-ghost use Rattle.redo_io.specs.{SourceSeen};
 ghost use Rattle.redo_lab.specs.Asked.{IsScriptRead};
 ghost use Rattle.redo_lab.specs.Call.{Unfused};
-ghost use Rattle.redo_lab.specs.Handed.{AreOf, call_on};
+ghost use Rattle.redo_lab.specs.Handed.{AreOf, call_on, Handed};
 ghost use Rattle.redo_lab.specs.Ending.{EndsWith, SparesArchive, WhereDone};
 ghost use Rattle.redo_lab.specs.Runs.{IsRanBy, IsRunPrinted, IsUncut, SparedBy, ran_of, stops_of};
 
@@ -35,10 +34,10 @@ pub(crate) fn run_command<L: Sectors, D: Sectors>(
     script: &Script,
     ran: Ran<L, D>,
 ) -> Done<L, D>
-    ensures ends { (asked : Asked) (words : List (List ℕ)) (archive : Unfused) (source source_now : SourceSeen) (log : L) (store : D)
-        → IsRanBy (call_on L.seen L.gives D.seen D.gives words archive source source_now log store) (Run asked) asked (stops_of None) script.now ran
-        → IsScriptRead source source_now script.now
-        → EndsWith (call_on L.seen L.gives D.seen D.gives words archive source source_now log store result.log result.store) (Run asked) result.outcome }
+    ensures ends { (asked : Asked) (handed : Handed) (log : L) (store : D)
+        → IsRanBy (call_on L.seen L.gives D.seen D.gives handed log store) (Run asked) asked (stops_of None) script.now ran
+        → IsScriptRead handed.source handed.source_now script.now
+        → EndsWith (call_on L.seen L.gives D.seen D.gives handed log store result.log result.store) (Run asked) result.outcome }
     ensures spares { (archive : Unfused) → SparedBy ran.course archive → SparesArchive archive result.outcome }
     ensures uncut { WhereDone result.outcome (IsUncut ran.course) }
     ensures entered { (log : L) (store : D) → AreOf log store ran.log ran.store → AreOf log store result.log result.store }

@@ -1,13 +1,10 @@
 // The commands that take no script.
-ghost use Rattle.std.specs.Prelude.{ℕ, List, ◌≤◌};
+ghost use Rattle.std.specs.Prelude.{◌≤◌};
 ghost use Rattle.model_base.specs.{IsWithinLimits};
 ghost use Rattle.model_script.specs.declared.asked.Command.TheVariants.{Format, Recover, Dump};
 ghost use Rattle.model_script.specs.declared.words.TheConstants.{MAX_WORKERS};
-ghost use Rattle.redo_io.specs.{SourceSeen};
 ghost use Rattle.redo_lab.specs.Answer.{asked_shape};
-ghost use Rattle.redo_lab.specs.Call.{Unfused};
-ghost use Rattle.redo_lab.specs.Handed.{AreOf, call_on};
-ghost use Rattle.redo_lab.specs.Ending.{EndsWith};
+ghost use Rattle.redo_lab.specs.Done.{IsUnreadEnd};
 
 use crate::faults::fault_of;
 use crate::laws::laws;
@@ -33,9 +30,7 @@ pub(crate) fn format_devices<L: Sectors, D: Sectors>(
     store: D,
 ) -> Done<L, D>
     requires { IsWithinLimits (asked_shape page_size pages space log_blocks) }
-    ensures ends { (words : List (List ℕ)) (archive : Unfused) (source : SourceSeen)
-        → EndsWith (call_on L.seen L.gives D.seen D.gives words archive source source log store result.log result.store) (Format page_size pages space log_blocks) result.outcome }
-    ensures entered { AreOf log store result.log result.store }
+    ensures { IsUnreadEnd L.seen L.gives D.seen D.gives log store (Format page_size pages space log_blocks) result }
 {
     laws();
     let mut log = Fused::plain(log);
@@ -61,9 +56,7 @@ pub(crate) fn print_pages<R: Threads + Sync, L: Sectors, D: Sectors>(
     store: D,
 ) -> Done<L, D>
     requires { (1 ≤ workers) × (workers ≤ MAX_WORKERS) }
-    ensures ends { (words : List (List ℕ)) (archive : Unfused) (source : SourceSeen)
-        → EndsWith (call_on L.seen L.gives D.seen D.gives words archive source source log store result.log result.store) (Recover workers) result.outcome }
-    ensures entered { AreOf log store result.log result.store }
+    ensures { IsUnreadEnd L.seen L.gives D.seen D.gives log store (Recover workers) result }
 {
     laws();
     let mut log = Fused::plain(log);
@@ -86,9 +79,7 @@ pub(crate) fn print_store<L: Sectors, D: Sectors>(
     log: L,
     store: D,
 ) -> Done<L, D>
-    ensures ends { (words : List (List ℕ)) (archive : Unfused) (source : SourceSeen)
-        → EndsWith (call_on L.seen L.gives D.seen D.gives words archive source source log store result.log result.store) (Dump why) result.outcome }
-    ensures entered { AreOf log store result.log result.store }
+    ensures { IsUnreadEnd L.seen L.gives D.seen D.gives log store (Dump why) result }
 {
     laws();
     let mut log = Fused::plain(log);

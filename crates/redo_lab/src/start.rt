@@ -1,15 +1,13 @@
 // What comes before a run's drive: the store is opened and the script judged, its followers are made, and its archive is begun.
-ghost use Rattle.std.specs.Prelude.{◌≡◌, ◌≤◌, ℕ, List, IfErr, IfOk, is_some, true};
+ghost use Rattle.std.specs.Prelude.{◌≡◌, ◌≤◌, IfErr, IfOk, is_some, true};
 ghost use Rattle.std.specs.List.{AllByRecursion};
 ghost use Rattle.model_script.specs.{IsScriptLine};
 ghost use Rattle.model_script.specs.declared.asked.Command.{Command};
 ghost use Rattle.model_script.specs.declared.asked.Command.TheVariants.{Run};
 ghost use Rattle.model_script.specs.declared.words.TheConstants.{MAX_FOLLOWERS};
-ghost use Rattle.redo_io.specs.{SourceSeen};
 ghost use Rattle.redo_lab.specs.declared.playing.Course.TheVariants as ended;
 ghost use Rattle.redo_lab.specs.Begun.{AreBegunOr, AreGivenOn, HasBegun};
-ghost use Rattle.redo_lab.specs.Call.{Unfused};
-ghost use Rattle.redo_lab.specs.Handed.{call_on};
+ghost use Rattle.redo_lab.specs.Handed.{call_on, Handed};
 ghost use Rattle.redo_lab.specs.Runs.{AreWellCalled, CommandRuns, IsGivenBack, SparedBy};
 
 use crate::archiving::{begin_on, room_on};
@@ -59,9 +57,9 @@ pub(crate) fn begin_run<L: Sectors, D: Sectors, A: Sectors>(
     requires few { drive.now.followers ≤ MAX_FOLLOWERS }
     requires archives { is_some arch ≡ drive.now.archive }
     ensures begun { IfOk result (HasBegun A.seen A.gives drive.now script.now arch) }
-    ensures ready { (words : List (List ℕ)) (archive : Unfused) (source source_now : SourceSeen) (command : Command)
-        → CommandRuns source source_now command drive.now script.now → (drive.now.archive ≡ true → command ≡ Run drive.now)
-        → AreBegunOr L.seen D.seen A.seen (call_on L.seen L.gives D.seen D.gives words archive source source_now log store)
+    ensures ready { (handed : Handed) (command : Command)
+        → CommandRuns handed.source handed.source_now command drive.now script.now → (drive.now.archive ≡ true → command ≡ Run drive.now)
+        → AreBegunOr L.seen D.seen A.seen (call_on L.seen L.gives D.seen D.gives handed log store)
         command drive.now stops script.now arch result }
     ensures given_back { IfErr result (λ left. IsGivenBack A.seen (SparedBy left.0.course) arch left.1) }
     ensures well { IfErr result (λ left. AreWellCalled A.gives left.0.course arch left.1) }

@@ -9,7 +9,7 @@ use Rattle.redo_lab.specs.Runs.{played_follows, played_run}
 use Rattle.redo_lab.proofs.crash_command.crash_and_read.Goals as goal
 
 pub returns-in-Ok-clause-ends : goal.returns-in-Ok-clause-ends
-returns-in-Ok-clause-ends g c = λ asked words archive source source_now log_entry data_entry read left told none.
+returns-in-Ok-clause-ends g c = λ asked handed log_entry data_entry read left told none.
     let now = c.in-Ok.ensures in
     rw c.of_text.ensures (reading-ends
     (crash-reads _ _ (driven-later g.L.Sectors.seen g.L.Sectors.gives g.D.Sectors.seen g.D.Sectors.gives
@@ -23,7 +23,7 @@ returns-in-Ok-clause-ends g c = λ asked words archive source source_now log_ent
     now.recovered.read c.report_crash.ensures)
 
 pub returns-in-Err-clause-ends : goal.returns-in-Err-clause-ends
-returns-in-Err-clause-ends g c = λ asked words archive source source_now log_entry data_entry read left told none.
+returns-in-Err-clause-ends g c = λ asked handed log_entry data_entry read left told none.
     let now = c.in-Err.ensures in
     rw c.fault_of.ensures (failure-ends
     (crash-reads _ _ (driven-later g.L.Sectors.seen g.L.Sectors.gives g.D.Sectors.seen g.D.Sectors.gives

@@ -10,8 +10,9 @@ use Rattle.redo_lab.proofs.Fuses.{armed-now}
 use Rattle.redo_lab.specs.Call.{Unfused}
 use Rattle.redo_lab.proofs.Rereading.{prepared-later}
 use Rattle.redo_lab.proofs.fitted.ready.Goals as goal
+use Rattle.redo_lab.specs.Handed.{Handed, handed_of}
 
--- whatever the archive's device and the source are
+-- whatever was handed beside the devices
 abbrev no_device : Seen
 no_device = record { size = 0; tells = None; crashed_from = None; faults = 0 }
 
@@ -21,24 +22,27 @@ no_archive = record { entry = no_device; now = no_device }
 abbrev no_source : SourceSeen
 no_source = record { left = None; faults = 0 }
 
+abbrev nothing : Handed
+nothing = handed_of [] no_archive no_source no_source
+
 pub arm-requires : goal.arm-requires
-arm-requires g c = (c.in-Ok.ensures.prepares [] no_archive no_source no_source).0.0.stage
+arm-requires g c = (c.in-Ok.ensures.prepares nothing).0.0.stage
 
 pub arm-requires-2 : goal.arm-requires-2
-arm-requires-2 g c = (c.in-Ok.ensures.prepares [] no_archive no_source no_source).0.1.stage
+arm-requires-2 g c = (c.in-Ok.ensures.prepares nothing).0.1.stage
 
 pub returns-in-Err-clause-ready : goal.returns-in-Err-clause-ready
-returns-in-Err-clause-ready g c = λ words archive source source_now command asked running same room.
-    rw c.fault_of.ensures ((rw (c.plain-log.ensures.inner, c.plain-store.ensures.inner) at c.in-Err.ensures.prepares words archive source source_now) command asked c.args.script.now running)
+returns-in-Err-clause-ready g c = λ handed command asked running same room.
+    rw c.fault_of.ensures ((rw (c.plain-log.ensures.inner, c.plain-store.ensures.inner) at c.in-Err.ensures.prepares handed) command asked c.args.script.now running)
 
 pub returns-clause-ready : goal.returns-clause-ready
-returns-clause-ready g c = λ words archive source source_now command asked running same room.
-    let prepared = rw (c.plain-log.ensures.inner, c.plain-store.ensures.inner) at c.in-Ok.ensures.prepares words archive source source_now in
+returns-clause-ready g c = λ handed command asked running same room.
+    let prepared = rw (c.plain-log.ensures.inner, c.plain-store.ensures.inner) at c.in-Ok.ensures.prepares handed in
     let log_told : armed_from g.L.Sectors.seen c.arm.new.self ≡ (g.L.Sectors.seen c.prepare.new.log.inner).tells =
     ap (option_and_then (λ device. (g.L.Sectors.seen device).tells)) c.arm.ensures.armed in
     let data_told : armed_from g.D.Sectors.seen c.arm-2.new.self ≡ (g.D.Sectors.seen c.prepare.new.store.inner).tells =
     ap (option_and_then (λ device. (g.D.Sectors.seen device).tells)) c.arm-2.ensures.armed in
-    c.open_fitted.ensures.ready words archive source source_now c.args.log c.args.store command asked c.args.stops running same room
+    c.open_fitted.ensures.ready handed c.args.log c.args.store command asked c.args.stops running same room
     (record {
       prepared = prepared-later _
           (record { now = g.L.Sectors.seen c.prepare.new.log.inner; fuse = c.prepare.new.log.fuse; armed_from = (g.L.Sectors.seen c.prepare.new.log.inner).tells })

@@ -9,7 +9,7 @@ use Rattle.redo_lab.specs.Runs.{ran_of}
 use Rattle.redo_lab.proofs.gen_command.read_after.Goals as goal
 
 pub returns-in-Ok-clause-ends : goal.returns-in-Ok-clause-ends
-returns-in-Ok-clause-ends g c = λ words archive source log_entry data_entry seed users groups max script running was.
+returns-in-Ok-clause-ends g c = λ handed log_entry data_entry seed users groups max script running was.
     let now = c.in-Ok.ensures in
     rw c.of_text.ensures (reading-ends
     (gen-reads _ _ (driven-later g.L.Sectors.seen g.L.Sectors.gives g.D.Sectors.seen g.D.Sectors.gives
@@ -21,7 +21,7 @@ returns-in-Ok-clause-ends g c = λ words archive source log_entry data_entry see
     now.recovered.read c.summarize.ensures)
 
 pub returns-in-Err-clause-ends : goal.returns-in-Err-clause-ends
-returns-in-Err-clause-ends g c = λ words archive source log_entry data_entry seed users groups max script running was.
+returns-in-Err-clause-ends g c = λ handed log_entry data_entry seed users groups max script running was.
     let now = c.in-Err.ensures in
     rw c.fault_of.ensures (failure-ends
     (gen-reads _ _ (driven-later g.L.Sectors.seen g.L.Sectors.gives g.D.Sectors.seen g.D.Sectors.gives

@@ -1,19 +1,26 @@
-use Rattle.std.proofs.Common.{Some, ap, inr, refl, subst, sym, ◌∙◌}
+use Rattle.std.proofs.Common.{[], ap, inr, refl, rules, sym, ◌∙◌}
 use Rattle.redo_lab.proofs.AskedLimits.{command-of-within}
 use Rattle.redo_lab.specs.Asked.{calls_archive}
-use Rattle.redo_lab.specs.Allowed.{HasAllowedNumbers}
 use Rattle.redo_lab.proofs.Alone.{all-left, nothing-ends}
-use Rattle.redo_lab.proofs.Unarchived.{never-restores, uncalled-alone}
 use Rattle.redo_lab.proofs.lab_call.lab.Goals as goal
 
-pub source_in_threads-done-requires-clause-within : goal.source_in_threads-done-requires-clause-within
-source_in_threads-done-requires-clause-within g c = λ κs live. subst HasAllowedNumbers c.in-Some.ensures.some.0 (command-of-within _ c.in-Ok.command c.in-Ok.ensures.asked)
-
-pub source_in_threads-done-requires-clause-in_threads : goal.source_in_threads-done-requires-clause-in_threads
-source_in_threads-done-requires-clause-in_threads g c = λ κs live. c.in-Some.ensures.some.1
-
-pub lab_turns-requires-clause-within : goal.lab_turns-requires-clause-within
-lab_turns-requires-clause-within g c = λ κs live. command-of-within _ c.in-Ok.command c.in-Ok.ensures.asked
+pub done-done-requires : goal.done-done-requires
+done-done-requires g c =
+    let l = c.type_bounds.send-L in
+    let d = c.type_bounds.send-D in
+    let a = c.type_bounds.send-A in
+    let r = c.type_bounds.sync-R in
+    let t = c.type_bounds.sync-G in
+    let within = command-of-within _ c.in-Ok.command c.in-Ok.ensures.asked in (
+      search (rules, l),
+      (
+        search (rules, d),
+        (
+          search (rules, a),
+          (record { shared = r.shared }, (record { shared = t.shared }, within)),
+        ),
+      ),
+    )
 
 pub returns-in-Err-clause-call : goal.returns-in-Err-clause-call
 returns-in-Err-clause-call g c =
@@ -25,41 +32,29 @@ returns-in-Err-clause-call g c =
     )
     refl c.laws.ensures (rw unasked.outcome_is at c.end.ensures.printed) (all-left (g.S.Source.seen c.args.src.now).left))
 
-pub returns-in-Some-clause-call : goal.returns-in-Some-clause-call
-returns-in-Some-clause-call g c =
-    let is = c.in-Some.ensures.some in
-    rw (c.end-in-Some.ensures.log, c.end-in-Some.ensures.store, c.end-in-Some.ensures.arch) (record {
-      way = inr (
-        c.in-Ok.command,
-        record {
-          asked = c.in-Ok.ensures.asked;
-          outcome = c.source_in_threads-done.result.0.outcome;
-          ends = rw is.0 (c.source_in_threads-done.ensures.ends _);
-          restores = λ to restore. absurd (never-restores c.in-Some.asked.drive c.in-Some.asked.crash to (sym is.0 ∙ restore));
-          spares = λ drive run. c.source_in_threads-done.ensures.archive.0;
-          well = c.source_in_threads-done.ensures.well;
-          printed = c.end-in-Some.ensures.printed;
-        },
-      );
-      reads_little = c.source_in_threads-done.ensures.taken;
-    })
+pub returns-clause-call : goal.returns-clause-call
+returns-clause-call g c = rw (c.end-2.ensures.log, c.end-2.ensures.store, c.end-2.ensures.arch) (record {
+  way = inr (
+    c.in-Ok.command,
+    record {
+      asked = c.in-Ok.ensures.asked;
+      outcome = c.done-done.result.0.outcome;
+      ends = c.done-done.ensures.ends _;
+      restores = c.done-done.ensures.restores [];
+      spares = c.done-done.ensures.spares;
+      well = c.done-done.ensures.well;
+      printed = c.end-2.ensures.printed;
+    },
+  );
+  reads_little = c.done-done.ensures.taken;
+})
 
-pub returns-in-Some-clause-untouched : goal.returns-in-Some-clause-untouched
-returns-in-Some-clause-untouched g c = λ uncalled.
-    let is = c.in-Some.ensures.some in
-    let asked = c.in-Ok.ensures.asked in
-    c.end-in-Some.ensures.arch ∙ c.source_in_threads-done.ensures.archive.1
-    (uncalled-alone c.in-Some.asked.drive c.in-Some.asked.crash (subst HasAllowedNumbers is.0 (command-of-within _ c.in-Ok.command asked))
-    (sym (ap calls_archive (asked ∙ ap Some is.0)) ∙ uncalled))
-
-pub returns-in-None-clause-call : goal.returns-in-None-clause-call
-returns-in-None-clause-call g c = c.lab_turns.ensures.call _ c.in-Ok.ensures.asked
+pub returns-clause-untouched : goal.returns-clause-untouched
+returns-clause-untouched g c = λ uncalled. c.end-2.ensures.arch
+    ∙ c.done-done.ensures.untouched (sym (ap calls_archive c.in-Ok.ensures.asked) ∙ uncalled)
 
 pub returns-in-Err-clause-entered : goal.returns-in-Err-clause-entered
 returns-in-Err-clause-entered g c = rw (c.end.ensures.log, c.end.ensures.store) c.unasked.ensures.entered
 
-pub returns-in-Some-clause-entered : goal.returns-in-Some-clause-entered
-returns-in-Some-clause-entered g c = rw (c.end-in-Some.ensures.log, c.end-in-Some.ensures.store) c.source_in_threads-done.ensures.entered
-
-pub returns-in-None-clause-entered : goal.returns-in-None-clause-entered
-returns-in-None-clause-entered g c = c.lab_turns.ensures.entered
+pub returns-clause-entered : goal.returns-clause-entered
+returns-clause-entered g c = rw (c.end-2.ensures.log, c.end-2.ensures.store) c.done-done.ensures.entered

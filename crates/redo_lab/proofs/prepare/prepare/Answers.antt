@@ -12,7 +12,7 @@ use Rattle.redo_lab.specs.Handed.{call_on}
 use Rattle.redo_lab.proofs.prepare.prepare.Goals as goal
 
 pub returns-in-Ok-clause-prepares : goal.returns-in-Ok-clause-prepares
-returns-in-Ok-clause-prepares g c = λ words archive source source_now.
+returns-in-Ok-clause-prepares g c = λ handed.
     let header : HEADER_BYTES ≤ (g.L.Sectors.seen c.args.log.now.inner).size = omega (arith, c.len.ensures.size, c.if-len-lt-HEADER_BYTES.false) in
     let first = read-first g.D.Sectors.seen c.args.store.now c.requires.log_fresh c.requires.data_fresh c.in-Ok-true.ensures.calls in
     prepared-formatted _ (guarded g.L.Sectors.seen c.args.log.now.inner c.is_unused.new.log) (guarded g.D.Sectors.seen c.args.store.now.inner c.args.store.now) c.in-Ok.field-0 header
@@ -23,7 +23,7 @@ returns-in-Ok-clause-prepares g c = λ words archive source source_now.
     (rw c.default_shape.ensures.shape at c.in-Ok.ensures.lengths) (rw c.default_shape.ensures.shape at c.in-Ok.ensures.formatted)
 
 pub returns-in-Err-format-clause-prepares : goal.returns-in-Err-format-clause-prepares
-returns-in-Err-format-clause-prepares g c = λ words archive source source_now command asked script running.
+returns-in-Err-format-clause-prepares g c = λ handed command asked script running.
     let header : HEADER_BYTES ≤ (g.L.Sectors.seen c.args.log.now.inner).size = omega (arith, c.len.ensures.size, c.if-len-lt-HEADER_BYTES.false) in
     let first = read-first g.D.Sectors.seen c.args.store.now c.requires.log_fresh c.requires.data_fresh c.in-Ok-true.ensures.calls in
     let log_calls = c.in-Err-format.ensures.called.log_calls in
@@ -34,23 +34,23 @@ returns-in-Err-format-clause-prepares g c = λ words archive source source_now c
     λ on. refl in
     format-fails g.L.Sectors.seen g.L.Sectors.gives g.D.Sectors.seen g.D.Sectors.gives c.args.log.now.inner c.args.store.now.inner first.unarmed
     (unprepared-formatted _ command asked script running c.laws.ensures header (λ same. rw (same.0, same.1) first) _ log_same (rw c.in-Ok-true.field-0-test at c.in-Ok-true.ensures.unused)
-    (kept-no-store (call_on g.L.Sectors.seen g.L.Sectors.gives g.D.Sectors.seen g.D.Sectors.gives words archive source source_now c.args.log.now.inner c.args.store.now.inner c.format.new.log c.format.new.data_device)
+    (kept-no-store (call_on g.L.Sectors.seen g.L.Sectors.gives g.D.Sectors.seen g.D.Sectors.gives handed c.args.log.now.inner c.args.store.now.inner c.format.new.log c.format.new.data_device)
     _ _ _ log_same data_same (rw c.default_shape.ensures.shape at c.in-Err-format.ensures.keeps)))
     c.in-Err-format.fault c.in-Err-format.ensures.calls (rw c.default_shape.ensures.shape at c.in-Err-format.ensures.cause)
 
 pub returns-in-Ok-false-clause-prepares : goal.returns-in-Ok-false-clause-prepares
-returns-in-Ok-false-clause-prepares g c = λ words archive source source_now.
+returns-in-Ok-false-clause-prepares g c = λ handed.
     let header : HEADER_BYTES ≤ (g.L.Sectors.seen c.args.log.now.inner).size = omega (arith, c.len.ensures.size, c.if-len-lt-HEADER_BYTES.false) in
     prepared-in-use _ header (read-first g.D.Sectors.seen c.args.store.now c.requires.log_fresh c.requires.data_fresh c.in-Ok-false.ensures.calls)
     (rw c.in-Ok-false.field-0-test at c.in-Ok-false.ensures.unused)
 
 pub returns-in-Err-clause-prepares : goal.returns-in-Err-clause-prepares
-returns-in-Err-clause-prepares g c = λ words archive source source_now command asked script running.
+returns-in-Err-clause-prepares g c = λ handed command asked script running.
     rw c.log_fault.ensures (unprepared-read _ command asked script running c.laws.ensures c.in-Err.error
     (read-first g.D.Sectors.seen c.args.store.now c.requires.log_fresh c.requires.data_fresh c.in-Err.ensures.calls))
 
 pub returns-then-len-lt-HEADER_BYTES-clause-prepares : goal.returns-then-len-lt-HEADER_BYTES-clause-prepares
-returns-then-len-lt-HEADER_BYTES-clause-prepares g c = λ words archive source source_now command asked script running.
+returns-then-len-lt-HEADER_BYTES-clause-prepares g c = λ handed command asked script running.
     unprepared-small _ command asked script running c.laws.ensures (
       alone-behind g.L.Sectors.seen c.args.log.now.inner c.args.log.now c.args.log.now refl c.requires.log_fresh refl,
       alone-behind g.D.Sectors.seen c.args.store.now.inner c.args.store.now c.args.store.now refl c.requires.data_fresh refl,

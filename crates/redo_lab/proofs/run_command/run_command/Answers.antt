@@ -6,7 +6,7 @@ use Rattle.redo_lab.proofs.run_command.run_command.Goals as goal
 use Rattle.redo_lab.proofs.run_command.run_command.Goals.{in-Ended2, in-Played}
 
 pub returns-clause-ends : goal.returns-clause-ends
-returns-clause-ends g c = λ asked words archive source source_now log store ran read.
+returns-clause-ends g c = λ asked handed log store ran read.
     elim c.match-course.branch [
       | in-Ended2 w ↦ rw w.outcome-is (elim w.in-Ended.is [
         | inl ended ↦ rw ended at ran

@@ -8,9 +8,9 @@ use Rattle.redo_lab.specs.declared.playing.Course.TheVariants as course
 -- the store isn't opened
 
 pub returns-in-Err-clause-ready : goal.returns-in-Err-clause-ready
-returns-in-Err-clause-ready g c = λ words archive source source_now command running only same.
-    c.in-Err.ensures.ready words archive source source_now command c.args.drive.now running refl
-    (c.room_on-room.ensures ∙ archive-sized g.A.Sectors.seen archive c.args.drive.now c.args.arch c.args.arch c.requires.archives same)
+returns-in-Err-clause-ready g c = λ handed command running only same.
+    c.in-Err.ensures.ready handed command c.args.drive.now running refl
+    (c.room_on-room.ensures ∙ archive-sized g.A.Sectors.seen handed.archive c.args.drive.now c.args.arch c.args.arch c.requires.archives same)
 
 pub returns-in-Err-clause-given_back : goal.returns-in-Err-clause-given_back
 returns-in-Err-clause-given_back g c = given-same g.A.Sectors.seen c.in-Err.ran.course c.args.arch
@@ -24,9 +24,9 @@ returns-in-Err-clause-entered g c = c.in-Err.ensures.entered
 -- no memory for the followers
 
 pub returns-in_default-clause-ready : goal.returns-in_default-clause-ready
-returns-in_default-clause-ready g c = λ words archive source source_now command running only same.
-    let ready = c.in-Ok.ensures.ready words archive source source_now command c.args.drive.now running refl
-    (c.room_on-room.ensures ∙ archive-sized g.A.Sectors.seen archive c.args.drive.now c.args.arch c.args.arch c.requires.archives same) in
+returns-in_default-clause-ready g c = λ handed command running only same.
+    let ready = c.in-Ok.ensures.ready handed command c.args.drive.now running refl
+    (c.room_on-room.ensures ∙ archive-sized g.A.Sectors.seen handed.archive c.args.drive.now c.args.arch c.args.arch c.requires.archives same) in
     rw (c.unbegun.ensures.course, c.unbegun.ensures.log, c.unbegun.ensures.store)
     (unplayed-memory _ command c.args.drive.now c.args.stops c.args.script.now running c.laws.ensures ready.armed ready.reads)
 
@@ -63,9 +63,9 @@ returns-in-Ok-begin_on-clause-begun g c = record {
 }
 
 pub returns-in-Ok-begin_on-clause-ready : goal.returns-in-Ok-begin_on-clause-ready
-returns-in-Ok-begin_on-clause-ready g c = λ words archive source source_now command running only now same.
-    c.in-Ok.ensures.ready words archive source source_now command c.args.drive.now running refl
-    (c.room_on-room.ensures ∙ archive-sized g.A.Sectors.seen archive c.args.drive.now c.args.arch now c.requires.archives same)
+returns-in-Ok-begin_on-clause-ready g c = λ handed command running only now same.
+    c.in-Ok.ensures.ready handed command c.args.drive.now running refl
+    (c.room_on-room.ensures ∙ archive-sized g.A.Sectors.seen handed.archive c.args.drive.now c.args.arch now c.requires.archives same)
 
 pub returns-in-Ok-begin_on-clause-entered : goal.returns-in-Ok-begin_on-clause-entered
 returns-in-Ok-begin_on-clause-entered g c = c.in-Ok.ensures.entered
@@ -73,9 +73,9 @@ returns-in-Ok-begin_on-clause-entered g c = c.in-Ok.ensures.entered
 -- no archive was begun
 
 pub returns-in-Err-begin_on-clause-ready : goal.returns-in-Err-begin_on-clause-ready
-returns-in-Err-begin_on-clause-ready g c = λ words archive source source_now command running only same.
-    let ready = c.in-Ok.ensures.ready words archive source source_now command c.args.drive.now running refl
-    (c.room_on-room.ensures ∙ archive-sized g.A.Sectors.seen archive c.args.drive.now c.args.arch _ c.requires.archives same) in
+returns-in-Err-begin_on-clause-ready g c = λ handed command running only same.
+    let ready = c.in-Ok.ensures.ready handed command c.args.drive.now running refl
+    (c.room_on-room.ensures ∙ archive-sized g.A.Sectors.seen handed.archive c.args.drive.now c.args.arch _ c.requires.archives same) in
     rw (c.unbegun-in-Err-begin_on.ensures.course, c.unbegun-in-Err-begin_on.ensures.log, c.unbegun-in-Err-begin_on.ensures.store)
     (unbegun-comes g.L.Sectors.seen g.D.Sectors.seen g.A.Sectors.seen _ command c.args.drive.now c.args.stops c.args.script.now running c.laws.ensures
     c.in-Ok.opened ready only c.args.arch c.in-Err-begin_on.fault c.in-Err-begin_on.arch c.in-Err-begin_on.ensures.fault c.requires.archives same)
