@@ -94,40 +94,40 @@ module _ (o : OwnUser) (k : LogWork) where
   own_same a = either o.user.checks (own_checked o (old_of a), k) (errand_took o k a o.errand) (checked_same (old_of a))
       (errand_same a o.errand)
 
-module _ (c : Setup) (users : List OwnUser) (k : LogWork) (others : List Actor)
-    (seated : AreSeated c (all_actors users k others)) where
+module _ {live : Bool} (c : Setup) (users : List OwnUser) (k : LogWork) (others : List Actor)
+    (seated : AreSeated live c (all_actors users k others)) where
   user_seated : (i : ℕ) (o x : OwnUser) (k' : LogWork) → get_elem? users i ≡ some o → SameUser o x
-      → AreSeated c (all_actors (set users i x) k' others)
+      → AreSeated live c (all_actors (set users i x) k' others)
   user_seated i o x k' at same =
       let us : List OwnUser = set users i x in
       let with_user = seats_keep c (all_actors users k others) seated i (actor.User o.user) (actor.User x.user)
       (user_there users k others i o at) (x.user, refl, same.0, same.1) in
-      let s1 : AreSeated c (all_actors us k others) =
-      subst (AreSeated c) (user_put users k others i o x at) with_user in
+      let s1 : AreSeated live c (all_actors us k others) =
+      subst (AreSeated live c) (user_put users k others i o x at) with_user in
       let writer_in = seats_keep c (all_actors us k others) s1 (writer_seat us) (actor.Writer k.writer)
       (actor.Writer k'.writer) (writer_there us k others) (k'.writer, refl) in
       let k1 : LogWork = record k { writer = k'.writer } in
-      let s2 : AreSeated c (all_actors us k1 others) =
-      subst (AreSeated c) (writer_put us k others k'.writer) writer_in in
+      let s2 : AreSeated live c (all_actors us k1 others) =
+      subst (AreSeated live c) (writer_put us k others k'.writer) writer_in in
       let with_flusher = seats_keep c (all_actors us k1 others) s2 (flusher_seat us) (actor.Flusher k.flusher)
       (actor.Flusher k'.flusher) (flusher_there us k1 others) (k'.flusher, refl) in
-      subst (AreSeated c) (flusher_put us k1 others k'.flusher) with_flusher
+      subst (AreSeated live c) (flusher_put us k1 others k'.flusher) with_flusher
 
 module _ (D : LogSide) (E : DataSide) (c : Setup) where
-  abbrev Seated : OwnCore D E → Type 0
-  Seated s = AreSeated c (all_actors s.users s.work s.others)
+  abbrev Seated : Bool → OwnCore D E → Type 0
+  Seated live s = AreSeated live c (all_actors s.users s.work s.others)
 
-  pub own_turn_keeps_seats : (old new : OwnCore D E) (seat : ℕ) (answer : Answer) (step : Step) → Seated old
-      → OwnTurn D E old seat answer step new → Seated new
-  own_turn_keeps_seats old new seat answer step seated t = ⊎_elim of_user
+  pub own_turn_keeps_seats : {live : Bool} (old new : OwnCore D E) (seat : ℕ) (answer : Answer) (step : Step)
+      → Seated live old → OwnTurn D E old seat answer step new → Seated live new
+  own_turn_keeps_seats {live} old new seat answer step seated t = ⊎_elim of_user
       (λ u. turn_keeps_seats D E c (with_writer old) (with_writer new) (seat + 2) answer step seated u.turn) t
     where
-      of_user : UserTurn D E old seat answer step new → Seated new
+      of_user : UserTurn D E old seat answer step new → Seated live new
       of_user u =
           let x = own_goes_on u.who old.work answer in
           let us : List OwnUser = set old.users seat x.0 in
           let left = user_seated c old.users old.work old.others seated seat u.who x.0 x.1 u.who_is
           (own_same u.who old.work answer) in
-          subst (λ (l : List OwnUser). AreSeated c (all_actors l new.work new.others)) (sym u.users)
-          (subst (λ (k : LogWork). AreSeated c (all_actors us k new.others)) (sym u.work)
-          (subst (λ (l : List Actor). AreSeated c (all_actors us x.1 l)) (sym u.others) left))
+          subst (λ (l : List OwnUser). AreSeated live c (all_actors l new.work new.others)) (sym u.users)
+          (subst (λ (k : LogWork). AreSeated live c (all_actors us k new.others)) (sym u.work)
+          (subst (λ (l : List Actor). AreSeated live c (all_actors us x.1 l)) (sym u.others) left))

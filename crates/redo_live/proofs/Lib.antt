@@ -1,0 +1,11 @@
+pub mod Answered
+pub mod Closed
+pub mod Fits
+pub mod GivenLine
+pub mod Handing
+pub mod Later
+pub mod NewlyOpened
+pub mod Quotas
+pub mod Seatings
+pub mod TakenLine
+pub mod Workers

@@ -1,0 +1,30 @@
+use Rattle.std.proofs.Common.{arith}
+use Rattle.atomic_table.proofs.Lists.{at_index}
+use Rattle.redo_live.proofs.Workers.{past, set_ended, set_still}
+use Rattle.redo_live.proofs.store.Store.run_all.Goals as goal
+
+pub loop-worker-init : goal.loop-worker-init
+loop-worker-init g c = record { still = λ first are. are; ended = λ i w low at. absurd (omega arith) }
+
+pub run-requires : goal.run-requires
+run-requires g c =
+    let there = at_index c.loop-worker.workers c.loop-worker.worker-index c.worker-item.result c.loop-worker-test.true
+    c.worker-item.is in
+    (c.loop-worker.invariant.still c.requires.0 c.requires.1 c.loop-worker.worker-index c.worker-item.result there).0
+
+pub loop-worker-preserved : goal.loop-worker-preserved
+loop-worker-preserved g c =
+    let there = at_index c.loop-worker.workers c.loop-worker.worker-index c.worker-item.result c.loop-worker-test.true
+    c.worker-item.is in record {
+      still = λ first are. set_still c.args.self.now c.loop-worker.workers c.loop-worker.worker-index
+          c.worker-item.result c.run.new.self there first (c.loop-worker.invariant.still first are) c.run.ensures.mine
+          c.run.ensures.same;
+      ended = set_ended c.args.self.now c.loop-worker.workers c.loop-worker.worker-index c.worker-item.result
+          c.run.new.self there c.loop-worker.invariant.ended c.run.ensures.at_end;
+    }
+
+pub returns-clause-ended : goal.returns-clause-ended
+returns-clause-ended g c i w at =
+    let low = past c.loop-worker.workers i w at in
+    let stop = c.loop-worker-test.false in
+    c.loop-worker.invariant.ended i w (omega arith) at
