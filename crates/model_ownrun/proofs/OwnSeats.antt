@@ -64,7 +64,8 @@ module _ (o : OwnUser) (k : LogWork) where
 
   stepped_same : (n : ℕ) → SameUser o (own_stepped o n)
   stepped_same n =
-      let kept = took_keeps o.user n o.user.step in
+      let took = took_keeps o.user n o.user.step in
+      let kept : ((stepped n).user ≡ o.user.user) × ((stepped n).lines ≡ o.user.lines) = (took.0, took.1) in
       let u : UserState = record (stepped n) { checks = false; step = loads_again (stepped n).step } in
       let set_out : OwnUser = record o { user = u; errand = errand_step.TakeDevice } in
       let gone_on : OwnUser = record o { user = stepped n; helped = cond (keeps_helped o.user.step) o.helped false } in

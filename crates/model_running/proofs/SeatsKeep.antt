@@ -4,7 +4,7 @@ use Rattle.model_core.specs.{filled, Filling}
 use Rattle.model_core.specs.ReaderProgram.{reader_filled}
 use Rattle.std.proofs.Common.{Bool, List, [], ap, arith, false, inl, inr, length, map, refl, set, subst, suc, sym, true, zero, ℕ, ⊎_elim, ◌++◌, ◌<◌, ◌∙◌, ◌∷◌, ◌≡◌, ◌⊎◌}
 use lib.ListN.{get_elem?}
-use Rattle.model_core.proofs.Later.{later_trans, took_later}
+use Rattle.model_core.proofs.Later.{later_refl, later_trans, took_later}
 use Rattle.model_core.specs.{Actor, Core, FlusherState, took, UserState, WriterState}
 use Rattle.model_core.specs.DataSide.{DataSide}
 use Rattle.model_core.specs.Later.{IsSameActor}
@@ -169,7 +169,7 @@ module _ {live : Bool} (c : Setup) (actors : List Actor) (seated : AreSeated liv
 -- what a turn puts into an actor leaves it the same
 pub filled_later : (a : Actor) (f : Filling) → IsSameActor a (filled a f)
 filled_later (actor.Reader r) f = (reader_filled r f r.step, refl)
-filled_later (actor.User u) f = (u, refl, refl, refl)
+filled_later (actor.User u) f = later_refl (actor.User u)
 filled_later (actor.Writer s) f = (s, refl)
 filled_later (actor.Flusher s) f = (s, refl)
 filled_later (actor.Closer s) f = (s, refl)

@@ -14,10 +14,12 @@ use Rattle.model_script.specs.declared.item.Item.{Item}
 use Rattle.model_script.specs.declared.script.ScriptLine.{ScriptLine}
 use Rattle.redo_drive.specs.Views.{view_of}
 use Rattle.redo_follow.specs.declared.tally.Tally.{Tally}
+use Rattle.redo_live.proofs.GoneOn.{stays}
 use Rattle.redo_live.proofs.Later.{state_is, user_later}
 use Rattle.redo_live.specs.Committing.{HasCommitted, HasFailed, HasPlayed, HasTaken, IsRefusedFor, IsRefusedSo}
 use Rattle.redo_live.specs.Committing.{MayPlay, program_line}
 use Rattle.redo_live.specs.Holding.{IsPlayedBy, IsUserOf, line_by, shape_of, state_of}
+use Rattle.redo_live.specs.Later.{HasGoneOn}
 use Rattle.redo_live.specs.Telling.{HasAnswered, last_end}
 use Rattle.redo_live.specs.declared.refused.Refused.{Refused}
 use Rattle.redo_live.specs.declared.refused.Refused.TheVariants.{Device, Full, NoMemory, Unfit}
@@ -67,6 +69,8 @@ module _ {L D : Type 0} (stands : Tally → List Given → Type 0) (store : Stor
         ended = subst (λ (q : Player Tally). IsUserOver (view_of (actor_of q))) later.plays ends.over;
         number = later.number;
         lines = later.lines;
+        answered = later.answered;
+        starts = later.starts;
         seat_number = goes.same.number;
         used = used;
       }
@@ -88,6 +92,12 @@ module _ {L D : Type 0} (store : Store L D) (u : UserState) (user : User L D) (m
     some_group = (let n = all_reserved in omega arith);
     groups = sits.mine.may.groups;
   }
+
+-- a list of one element
+only : (more : List ℕ) → length more ≡ 1 → (start : ℕ) × (more ≡ start ∷ [])
+only [] one = absurd (omega arith)
+only (x ∷ []) one = (x, refl)
+only (x ∷ y ∷ more) one = absurd (omega arith)
 
 -- A USER TAKES A LINE AND PLAYS
 module _ {L D : Type 0} (store : Store L D) (old mid new : User L D) (line : ScriptLine) (was : IsUserOf store old)
@@ -119,10 +129,37 @@ module _ {L D : Type 0} (store : Store L D) (old mid new : User L D) (line : Scr
     within = (let e = played.used in let w = took.within in omega arith);
   }
 
-  some_lines : 0 < length played.state.lines
-  some_lines =
+  lines_count : length played.state.lines ≡ length (state_of old).lines + 1
+  lines_count =
       let n = ap (λ (l : List Line). length l) played.lines in
       let m = length-append (state_of old).lines (program_line store line ∷ []) in omega arith
+
+  its_starts : (more : List ℕ) × ((state_of new).starts ≡ (state_of old).starts ++ more)
+  its_starts = (played.starts.0, ap (λ (s : UserState). s.starts) its_state ∙ played.starts.1)
+
+  -- it has gone on
+  has_gone_on : HasGoneOn (state_of old) (state_of new)
+  has_gone_on = record {
+    number = its_number;
+    lines = (program_line store line ∷ [], its_lines);
+    starts = its_starts;
+    answered = (let k = ap (λ (s : UserState). s.k) its_state in let l = played.answered in omega arith);
+  }
+
+  -- by one group, where it has done its lines
+  one_start : length played.state.starts ≡ length played.state.lines
+      → (start : ℕ) × ((state_of new).starts ≡ (state_of old).starts ++ start ∷ [])
+  one_start all =
+      let before = all_reserved store (state_of old) old
+      (record { plays = was.plays; sits = was.sits; layout = was.layout }) took.done in
+      let n = ap (λ (l : List ℕ). length l) played.starts.1 in
+      let m = length-append (state_of old).starts played.starts.0 in
+      let l = lines_count in
+      let one = only played.starts.0 (omega arith) in
+      (one.0, its_starts.1 ∙ ap (λ (l : List ℕ). (state_of old).starts ++ l) one.1)
+
+  some_lines : 0 < length played.state.lines
+  some_lines = let n = lines_count in omega arith
 
   -- IT HAS COMMITTED
   pub has_committed : (mode : ℕ) (items : List Item) → line ≡ line_by old mode items
@@ -136,7 +173,9 @@ module _ {L D : Type 0} (store : Store L D) (old mid new : User L D) (line : Scr
         lines = its_lines ∙ ap (λ (l : ScriptLine). (state_of old).lines ++ program_line store l ∷ []) line_is;
         done = ap (λ (s : UserState). s.step) its_state ∙ done;
         answered = subst (λ (s : UserState). s.k ≡ length s.lines) (sym its_state) all;
-        starts = subst (λ (s : UserState). length s.starts ≡ length s.lines) (sym its_state) starts;
+        goes_on = has_gone_on;
+        starts = one_start starts;
+        reserved = subst (λ (s : UserState). length s.starts ≡ length s.lines) (sym its_state) starts;
         end_is = end_is ∙ ap last_end (sym its_state);
       }
 
@@ -152,6 +191,7 @@ module _ {L D : Type 0} (store : Store L D) (old mid new : User L D) (line : Scr
   has_failed mode items line_is failed code code_is = record {
     failed = ap (λ (s : UserState). s.step) its_state ∙ failed;
     code_is = ap (λ (s : UserState). s.code) its_state ∙ sym code_is;
+    goes_on = has_gone_on;
     lines = inr (its_lines ∙ ap (λ (l : ScriptLine). (state_of old).lines ++ program_line store l ∷ []) line_is);
   }
 
@@ -173,5 +213,6 @@ module _ {L D : Type 0} (store : Store L D) (old new : User L D) (mode : ℕ) (i
       let is : state_of new ≡ u = ap (λ (z : User L D). state_of z) same ∙ state_is u old.player plays in record {
         failed = ap (λ (s : UserState). s.step) is ∙ failed;
         code_is = ap (λ (s : UserState). s.code) is ∙ sym code_is;
+        goes_on = stays old new same;
         lines = inl same;
       }

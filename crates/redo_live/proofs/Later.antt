@@ -1,5 +1,5 @@
 -- A user that plays, later.
-use Rattle.std.proofs.Common.{ap, subst, ◌≡◌}
+use Rattle.std.proofs.Common.{List, ap, subst, ℕ, ◌++◌, ◌≡◌, ◌≤◌}
 use Rattle.model_core.specs.{UserState}
 use Rattle.model_core.specs.Actors as model
 use Rattle.redo_drive.specs.Views.{view_of}
@@ -22,12 +22,14 @@ actor_is (actor.Checkpointer w) v is = absurd (cc)
 actor_is (actor.Archiver w) v is = absurd (cc)
 actor_is (actor.Follower w) v is = absurd (cc)
 
--- it keeps its number and its lines
+-- it keeps its number, its lines, its groups and its answers
 pub record IsUserLater {R : Type 0} (u : UserState) (q : Player R) : Type 0 where
   pub state : UserState
   pub plays : IsPlayedBy state q
   pub number : state.user ≡ u.user
   pub lines : state.lines ≡ u.lines
+  pub answered : u.k ≤ state.k
+  pub starts : (more : List ℕ) × (state.starts ≡ u.starts ++ more)
 
 later_plain : {R : Type 0} (u : UserState) (q : Player R) → IsSamePlayer (player.Plain (actor.User u)) q
     → IsUserLater u q
@@ -36,6 +38,8 @@ later_plain u (player.Plain b) same = record {
   plays = ap (λ (a : Actor _). player.Plain a) (actor_is b same.0 same.1);
   number = same.2;
   lines = same.3;
+  answered = same.4;
+  starts = (same.5, same.6);
 }
 later_plain u (player.Own o) same = absurd same
 

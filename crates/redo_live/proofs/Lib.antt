@@ -2,7 +2,9 @@ pub mod Answered
 pub mod Closed
 pub mod Fits
 pub mod GivenLine
+pub mod GoneOn
 pub mod Handing
+pub mod KeptCommit
 pub mod Later
 pub mod NewlyOpened
 pub mod Quotas

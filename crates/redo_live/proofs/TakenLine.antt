@@ -67,10 +67,10 @@ module _ {L D : Type 0} (law : FittingLaw) (store : Store L D) (user : User L D)
         }))
 
     -- IT HAS TAKEN THE LINE
-    pub has_taken : (new : User L D)
+    pub has_taken : (new : User L D) → (state_of user).step ≡ user_step.Done
         → HasLine table about (state_of user) line user.seat new.seat new.player → new.used ≡ user.used + count
         → HasTaken store user line new
-    has_taken new has used =
+    has_taken new done has used =
         let at = subst (λ (t : TableId). HasLine t (about_of store) (state_of user) line user.seat new.seat new.player)
         table_is
         (subst (λ (z : About L D). HasLine table z (state_of user) line user.seat new.seat new.player) about_is has) in
@@ -82,4 +82,5 @@ module _ {L D : Type 0} (law : FittingLaw) (store : Store L D) (user : User L D)
           used = (let b = bytes_are in let u = was.used in omega arith);
           within = (let w = was.within in omega arith);
           fits = its_fit;
+          done = done;
         }

@@ -9,6 +9,7 @@ use Rattle.model_script.specs.declared.item.Item.{Item}
 use Rattle.model_script.specs.declared.misfit.Misfit.{Misfit}
 use Rattle.model_script.specs.declared.script.ScriptLine.{ScriptLine}
 use Rattle.redo_live.specs.Holding.{about_of, IsPlayedBy, line_by, shape_of, state_of}
+use Rattle.redo_live.specs.Later.{HasGoneOn}
 use Rattle.redo_live.specs.Telling.{last_end}
 use Rattle.redo_live.specs.declared.refused.Refused.{Refused}
 use Rattle.redo_live.specs.declared.refused.Refused.TheVariants.{Device, Full, NoMemory, Unfit}
@@ -24,7 +25,7 @@ module _ {L D : Type 0} where
   abbrev pub program_line : Store L D → ScriptLine → Line
   program_line store line = line_about (about_of store) line
 
-  -- the user has the line, which fits the store, and goes on to it
+  -- the user, which had done its lines, has the line, which fits the store, and goes on to it
   pub record HasTaken (store : Store L D) (old : User L D) (line : ScriptLine) (new : User L D) : Type 0 where
     pub plays : IsPlayedBy (with_line (state_of old) (program_line store line)) new.player
     pub sits : IsPlayerSeat (table_of store.shared) new.seat new.player
@@ -33,6 +34,7 @@ module _ {L D : Type 0} where
     pub used : new.used ≡ lengths (state_of old).lines + length (program_line store line).bytes
     pub within : new.used ≤ store.quota
     pub fits : LineFits (shape_of store) line
+    pub done : (state_of old).step ≡ user_step.Done
 
   -- the user plays in its seat at the store's table
   pub record MayPlay (store : Store L D) (u : UserState) (user : User L D) : Type 0 where
@@ -40,13 +42,16 @@ module _ {L D : Type 0} where
     pub sits : IsPlayerSeat (table_of store.shared) user.seat user.player
     pub layout : user.seat.me.0.layout ≡ store.shared.layout
 
-  -- it has played to its end: it keeps its lines, its number and its seat, and has done them all or has failed
+  -- it has played to its end: it keeps its lines, its number, its groups, its answers and its seat, and has done all
+  -- lines or has failed
   pub record HasPlayed (store : Store L D) (u : UserState) (old new : User L D) : Type 0 where
     pub state : UserState
     pub now : MayPlay store state new
     pub ended : HasEnded state
     pub number : state.user ≡ u.user
     pub lines : state.lines ≡ u.lines
+    pub answered : u.k ≤ state.k
+    pub starts : (more : List ℕ) × (state.starts ≡ u.starts ++ more)
     pub seat_number : number_of new.seat.me.0 ≡ number_of old.seat.me.0
     pub used : new.used ≡ old.used
 
@@ -62,15 +67,17 @@ module _ {L D : Type 0} where
   IsRefusedFor store user line NoMemory = Unit {0}
   IsRefusedFor store user line (Device code) = ⊥
 
-  -- THE GROUP IS COMMITTED: the user has its line after those that it had, all its lines are done, and so far as the
-  -- user is told it ends here.
+  -- THE GROUP IS COMMITTED: the user has gone on by its line and by the group of that, and has done all its lines; and
+  -- as the user is told the group ends here.
   pub record HasCommitted (store : Store L D) (old : User L D) (mode : ℕ) (items : List Item) (new : User L D) (end : ℕ)
       : Type 0 where
     pub fits : LineFits (shape_of store) (line_by old mode items)
     pub lines : (state_of new).lines ≡ (state_of old).lines ++ program_line store (line_by old mode items) ∷ []
     pub done : (state_of new).step ≡ user_step.Done
     pub answered : (state_of new).k ≡ length (state_of new).lines
-    pub starts : length (state_of new).starts ≡ length (state_of new).lines
+    pub goes_on : HasGoneOn (state_of old) (state_of new)
+    pub starts : (start : ℕ) × ((state_of new).starts ≡ (state_of old).starts ++ start ∷ [])
+    pub reserved : length (state_of new).starts ≡ length (state_of new).lines
     pub end_is : end ≡ last_end (state_of new)
 
   -- the user has failed with this code; it may have the line, or it had failed before
@@ -78,6 +85,7 @@ module _ {L D : Type 0} where
       (new : User L D) : Type 0 where
     pub failed : (state_of new).step ≡ user_step.Failed
     pub code_is : (state_of new).code ≡ code
+    pub goes_on : HasGoneOn (state_of old) (state_of new)
     pub lines : (new ≡ old) ⊎ ((state_of new).lines ≡ (state_of old).lines ++ program_line store line ∷ [])
 
   -- WHY NOTHING IS COMMITTED, and how the user is then.

@@ -2,6 +2,8 @@ pub mod Closing
 pub mod Committing
 pub mod Giving
 pub mod Holding
+pub mod Kept
+pub mod Later
 pub mod Opening
 pub mod Seating
 pub mod Telling

@@ -5,12 +5,14 @@
 //! what the run leaves. A worker that never ran is run by `close`; but a commit waits for the writer, and one that is to be
 //! answered once it is flushed for the flusher, so these have to run beside it.
 //!
-//! No clause says that a commit is ever answered, since threads may not run.
+//! The history that it leaves has each commit that was answered, where the answer said (`commit_is_kept`). No clause
+//! says that a commit is ever answered, since threads may not run.
 #![tactic(auto)]
 
 mod closing;
 mod commit;
 mod giving;
+mod laws;
 mod quota;
 mod refused;
 mod seating;
@@ -20,6 +22,7 @@ mod telling;
 mod user;
 mod worker;
 
+pub use laws::{commit_is_kept, commits_go_on};
 pub use refused::Refused;
 pub use store::Store;
 pub use user::User;

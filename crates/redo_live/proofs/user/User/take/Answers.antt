@@ -32,4 +32,4 @@ returns-clause-ok g c =
       player = c.give_line.new.player;
       used = c.args.self.now.used + c.in-Ok.length;
     })
-    (c.in-Ok-give_line.ensures.ok (state_of c.args.self.now) may) refl
+    c.requires.done (c.in-Ok-give_line.ensures.ok (state_of c.args.self.now) may) refl
