@@ -235,7 +235,7 @@ admits-empty found log data_bytes opened reading reads held = record {
   first_groups_whole = record {
     shape = ap run_shape reads.shape
         ∙ run-alike opened.shape (run-slots held.older.was opened.shape held.older.newest.runs_by);
-    run_is_later = reads.shape;
+    shape_of_run = reads.shape;
     first_groups_whole = reads.pages;
     reaching_flushed = λ i entry is flushed. cc;
     marks = record { flushed = omega (arith, reads.end); checkpoint = omega arith };
@@ -315,7 +315,7 @@ admits-lost found log writes reads data_bytes reading as_opened held are ckpt = 
   old_copies = as_opened.old_copies;
   first_groups_whole = record {
     shape = ap run_shape as_opened.shape;
-    run_is_later = as_opened.shape;
+    shape_of_run = as_opened.shape;
     first_groups_whole = as_opened.pages ∙ sym (ap (λ n. folded new_store.pages (take n (wholes_of two_lines 1 lost_run.entries))) (none-first reading.end as_opened.end));
     reaching_flushed = λ i entry at flushed.
         let same = entry-only first-entry entry i at in
@@ -338,7 +338,7 @@ admits-stopped log data_bytes reading as_opened = record {
   old_copies = as_opened.old_copies;
   first_groups_whole = record {
     shape = ap run_shape as_opened.shape;
-    run_is_later = tt;
+    shape_of_run = tt;
     first_groups_whole = as_opened.pages;
     reaching_flushed = λ i entry at flushed. absurd (cc);
     marks = tt;

@@ -193,7 +193,7 @@ reads-prefix law held log store is log_fair fair =
           subst (IsNoNewerCopy opened.shape store slot lsn) (sym from.2) (found.old_copies p slot lsn from.0 within from.1 copy);
       prefix = record {
         shape = run-alike opened.shape is.given.slots;
-        run_is_later = refl;
+        shape_of_run = refl;
         first_groups_whole = ap (folded opened.pages) (sym (first-front held.script opened.shape.space found.end run.entries front found.after parts found.read_end found.other_ends));
         reaching_flushed = λ i entry at state.
             let low : entry.end ≤ run.marks.flushed = flushed-end held.script opened.shape.space run.start i run.marks run.entries entry is.is_run.legal at state in

@@ -32,7 +32,7 @@ pub record AreMarksReached (reading : Reading) (run : Ran) : Type 0 where
 -- at or below the end that was read. Where opening was stopped, its shape may still be that of an earlier format.
 pub record IsPrefixRead (script : List ScriptLine) (opened : Opened) (run : Option Ran) (reading : Reading) : Type 0 where
   pub shape : run_shape reading.shape ≡ opened.shape
-  pub run_is_later : IfSome run (λ _. reading.shape ≡ opened.shape)
+  pub shape_of_run : IfSome run (λ _. reading.shape ≡ opened.shape)
   -- the pages are the fold of the first n groups, page lsns included
   pub first_groups_whole : reading.pages
       ≡ folded opened.pages (take (first_count run reading.end) (wholes_of script opened.shape.space (entries_of run)))

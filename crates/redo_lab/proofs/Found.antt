@@ -181,7 +181,7 @@ prefix-opened script reading log_disk data_disk limits keeps log_bytes data_byte
       old_copies = read.old_copies;
       prefix = record {
         shape = read.shape;
-        run_is_later = tt;
+        shape_of_run = tt;
         first_groups_whole = read.pages;
         reaching_flushed = λ i entry at flushed. absurd (cc);
         marks = tt;
@@ -197,7 +197,7 @@ prefix-none script other opened log_bytes data_bytes read = record {
   old_copies = read.old_copies;
   prefix = record {
     shape = read.prefix.shape;
-    run_is_later = tt;
+    shape_of_run = tt;
     first_groups_whole = read.prefix.first_groups_whole;
     reaching_flushed = read.prefix.reaching_flushed;
     marks = tt;
