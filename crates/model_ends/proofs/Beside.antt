@@ -1,6 +1,6 @@
 -- What holds of any run beside its invariant, from its start on: the margin, that lists are in hands, and that the pages of a
 -- line ascend.
-use Rattle.std.proofs.Common.{List, [], ap, arith, length, refl, set, subst, suc, sym, ℕ, ⊎_elim, ◌*◌, ◌+◌, ◌<◌, ◌∙◌, ◌∷◌, ◌≡◌, ◌≤◌}
+use Rattle.std.proofs.Common.{List, None, [], ap, arith, length, refl, set, subst, suc, sym, ℕ, ⊎_elim, ◌*◌, ◌+◌, ◌<◌, ◌∙◌, ◌∷◌, ◌≡◌, ◌≤◌}
 use Rattle.std.specs.Prelude.{slice_index}
 use Rattle.std.specs.Prelude.{true, false}
 use lib.ListN.{get_elem?}
@@ -20,7 +20,7 @@ use Rattle.model_core.specs.declared.steps.ReaderStep.{ReaderStep}
 use Rattle.model_core.specs.declared.words.LinkBuffer.{LinkBuffer}
 use Rattle.model_core.specs.Holding.{holds_tail, user_holds_tail}
 use Rattle.model_logcore.proofs.Frame.{total_set}
-use Rattle.model_logcore.proofs.NewUsers.{new_user_is}
+use Rattle.model_logcore.proofs.NewUsers.{new_step, new_user_is}
 use Rattle.model_logcore.proofs.StartHolds.{start}
 use Rattle.model_logcore.specs.{StartActor, sum_over_actors}
 use Rattle.model_logcore.specs.LogHalf.{left_to_reserve}
@@ -166,7 +166,7 @@ module _ (D : LogSide) (E : DataSide) (c : Setup) where
   module _ (L : LogLaws D) (EL : DataLaws E) (words : SharedWords) (seat_of : ℕ → ℕ) (writer : ℕ) (first : Core D E) (S : StartStore D E c words first.log_part first.data_part seat_of writer first.actors) (layout_is : first.layout ≡ layout_of c) (flat_is : first.words ≡ flat words) (lists : ◌≡◌ {A = ℕ → List Listed} first.lists (λ _. []))
       (short : lsn (c.base + sum_over_actors left_to_reserve first.actors) < LSN_LIMIT) (few : sum_over_actors is_user first.actors ≤ 16) (long : MIN_LOG_BLOCKS ≤ c.blocks) (ascend : (user : ℕ) → Ascend (c.script user)) where
     no_pledge : (seat : ℕ) (a : Actor) → StartActor c seat_of writer seat a → pledge a ≤ 0
-    no_pledge seat (actor.User u) h = let z = ap (user_pledge u) (new_user_is c u h.1).step in omega arith
+    no_pledge seat (actor.User u) h = let z : user_pledge u u.step ≡ 0 = new_step c u h.1 (λ f. user_pledge u f ≡ 0) refl refl in omega arith
     no_pledge seat (actor.Writer s) h = omega arith
     no_pledge seat (actor.Flusher s) h = omega arith
     no_pledge seat (actor.Reader s) h = omega arith
@@ -187,12 +187,19 @@ module _ (D : LogSide) (E : DataSide) (c : Setup) where
     starts_ascending seat (actor.Cleaner s) h = tt
     starts_ascending seat (actor.Checkpointer s) h = tt
 
-    user_free : (u : UserState) → u.step ≡ user_step.LoadCheckpoint → (b : LinkBuffer) → holds_tail b (actor.User u) ≡ false
-    user_free u is link_buffer.Written = ap (user_holds_tail link_buffer.Written) is
-    user_free u is link_buffer.Closed = ap (user_holds_tail link_buffer.Closed) is
+    first_free : (b : LinkBuffer) → user_holds_tail b user_step.LoadCheckpoint ≡ false
+    first_free link_buffer.Written = refl
+    first_free link_buffer.Closed = refl
+
+    done_free : (b : LinkBuffer) → user_holds_tail b user_step.Done ≡ false
+    done_free link_buffer.Written = refl
+    done_free link_buffer.Closed = refl
 
     starts_free : (seat : ℕ) (a : Actor) → StartActor c seat_of writer seat a → IsFreeToCheck a
-    starts_free seat (actor.User u) h = λ _. record { no_slot = ap (user_hand u) (new_user_is c u h.1).step; no_tail = user_free u (new_user_is c u h.1).step }
+    starts_free seat (actor.User u) h = λ _. record {
+      no_slot = new_step c u h.1 (λ f. user_hand u f ≡ None) refl refl;
+      no_tail = new_step c u h.1 (λ f. (b : LinkBuffer) → user_holds_tail b f ≡ false) first_free done_free;
+    }
     starts_free seat (actor.Writer s) h = subst (λ (z : WriterState). IsFreeToCheck (actor.Writer z)) (sym h.1) (λ _. record { no_slot = refl; no_tail = λ b. by b })
       where
         by : (b : LinkBuffer) → holds_tail b (actor.Writer (writer_start c)) ≡ false

@@ -1,6 +1,6 @@
 -- From its start on: in each state that any turns reach and in which FAILED has a code, turns one after another end the run
 -- within a number of turns that the script alone gives.
-use Rattle.std.proofs.Common.{List, [], ap, arith, drop, length, length-set, refl, subst, suc, sym, ℕ, ◌*◌, ◌+◌, ◌/◌, ◌<◌, ◌∙◌, ◌∷◌, ◌≡◌, ◌≤◌}
+use Rattle.std.proofs.Common.{List, [], ap, arith, drop, length, length-set, refl, subst, suc, sym, ℕ, ⊎_elim, ◌*◌, ◌+◌, ◌/◌, ◌<◌, ◌∙◌, ◌∷◌, ◌≡◌, ◌≤◌}
 use Rattle.std.proofs.Math.Nat.{mul-le-mul_right}
 use Rattle.std.specs.Prelude.{slice_index}
 use Rattle.model_base.specs.declared.limits.TheConstants.{LSN_LIMIT}
@@ -78,12 +78,12 @@ module _ (D : LogSide) (E : DataSide) (c : Setup) (L : LogLaws D) (EL : DataLaws
   left_first : (seat : ℕ) (a : Actor) → StartActor c seat_of writer seat a → left_of a ≤ script_steps a
   left_first seat (actor.User u) h =
       let new = new_user_is c u h.1 in
-      let step = ap (user_steps u) new.step in
-      let some = new.some_lines in
       let k = new.k in
-      let front = lines_from u.lines u.k (omega arith) in
-      let all = all_lines u.lines u.k k in
-      omega arith
+      let all = all_lines u.lines u.k k in ⊎_elim
+      (λ z. let step = ap (user_steps u) z.step in let some = z.some_lines in
+      let front = lines_from u.lines u.k (omega arith) in omega arith)
+      (λ z. let step = ap (user_steps u) z.step in omega arith)
+      new.step
   left_first seat (actor.Writer s) h = omega arith
   left_first seat (actor.Flusher s) h = omega arith
   left_first seat (actor.Reader s) h = omega arith

@@ -8,7 +8,7 @@ use Rattle.model_core.specs.DataSide.{DataSide}
 use Rattle.model_core.specs.LogSide.{LogSide}
 use Rattle.model_core.specs.Setup.{Setup}
 use Rattle.model_core.specs.declared.limits.TheConstants.{WRITTEN_LINKS}
-use Rattle.model_logcore.proofs.NewUsers.{new_user_is}
+use Rattle.model_logcore.proofs.NewUsers.{new_step}
 use Rattle.model_logcore.proofs.StartHolds.{start}
 use Rattle.model_logcore.specs.{StartActor, sum_over_actors}
 use Rattle.model_logcore.specs.LogHalf.{left_to_reserve, lengths}
@@ -54,7 +54,7 @@ left_few (actor.User u) = lengths_drop u.lines (length u.starts)
 left_few _ = omega arith
 
 starts_told : (c : Setup) (seat_of : ℕ → ℕ) (writer seat failed : ℕ) (a : Actor) → IsLogActor a → StartActor c seat_of writer seat a → Told c failed a
-starts_told c seat_of writer seat failed (actor.User u) log h = subst (UserTold c u) (sym (new_user_is c u h.1).step) tt
+starts_told c seat_of writer seat failed (actor.User u) log h = new_step c u h.1 (UserTold c u) tt tt
 starts_told c seat_of writer seat failed (actor.Writer s) log h = subst (λ (z : WriterState). WriterTold failed z z.step) (sym h.1) tt
 starts_told c seat_of writer seat failed (actor.Flusher t) log h = subst (λ (z : FlusherState). FlusherTold failed z z.step) (sym h.1) tt
 starts_told c seat_of writer seat failed (actor.Closer t) log h = absurd log

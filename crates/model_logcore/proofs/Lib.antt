@@ -6,6 +6,7 @@ pub mod Failures
 pub mod FlusherSteps
 pub mod Frame
 pub mod GroupEnds
+pub mod LinesTotal
 pub mod LinkSteps
 pub mod LogAside
 pub mod LogKeeps
@@ -17,6 +18,7 @@ pub mod RingSteps
 pub mod Same
 pub mod StartEmpty
 pub mod StartHolds
+pub mod TakesLine
 pub mod UserAdvances
 pub mod UserGroups
 pub mod UserSteps

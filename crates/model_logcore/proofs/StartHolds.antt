@@ -1,7 +1,7 @@
 -- The log half holds at the start of a run, with a user that gets a seat later, and where one seat takes in another's groups.
 use Rattle.model_core.specs.States.{ReaderState}
 use Rattle.model_logcore.specs.LogFits.{ReaderAt}
-use Rattle.std.proofs.Common.{Bool, List, [], ap, arith, cond, eq-eqb, eqb, false, length, ne_eqb, refl, subst, suc, sym, true, ℕ, ◌+◌, ◌/◌, ◌<◌, ◌∙◌, ◌∷◌, ◌≡◌, ◌*◌}
+use Rattle.std.proofs.Common.{Bool, List, [], ap, arith, cond, eq-eqb, eqb, false, length, ne_eqb, refl, subst, suc, sym, true, ℕ, ⊎_elim, ◌+◌, ◌/◌, ◌<◌, ◌∙◌, ◌∷◌, ◌≡◌, ◌*◌}
 use lib.ListN.{get_elem?}
 use native.Mathlib.Decide.{ℕ_discrete}
 use Rattle.model_base.specs.declared.limits.TheConstants.{LSN_LIMIT}
@@ -130,7 +130,10 @@ module _ (D : LogSide) (c : Setup) (m : SharedWords) (p : D.Part) (seat_of : ℕ
     counted = sym (ap length k.starts);
     answers = sym k.k;
     loaded = subst (λ (z : LoadedMarks). AreBelow z m.ckpt m.write m.wtail m.flushed) (sym k.loaded) (record { ckpt_below = omega arith; write_below = omega arith; wtail_below = omega arith; flushed_below = omega arith });
-    step = subst (λ f. UserAt D c m start p seat u f) (sym k.step) (ap length k.starts ∙ sym k.k, (let z = k.some_lines in let y = k.k in omega arith));
+    step = (let none = ap length k.starts ∙ sym k.k in ⊎_elim
+        (λ z. subst (λ f. UserAt D c m start p seat u f) (sym z.step) (none, (let y = k.k in let x = z.some_lines in omega arith)))
+        (λ z. subst (λ f. UserAt D c m start p seat u f) (sym z.step) (none, k.k ∙ sym z.no_lines, z.unchecked))
+        k.step);
   }
   start_fits seat (actor.Writer s) h = subst (λ (z : WriterState). WriterFits D c m start p seat z) (sym h.1) (let e = W.even in record {
     alone = h.0;

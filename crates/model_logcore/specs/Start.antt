@@ -25,10 +25,9 @@ checkpointer_start c = new_checkpointer (lsn c.base) c.first_reader c.last_reade
 abbrev pub reader_start : Setup → ℕ → ReaderState
 reader_start c number = new_reader number (lsn c.base)
 
--- a user that has lines, each with a group of bytes and a mode, and has done nothing
+-- a user that has done nothing; each of its lines, if it has some, has a group of bytes and a mode
 pub record StartUser (c : Setup) (u : UserState) : Type 0 where
   pub is : ◌≡◌ {A = UserState} u (new_user u.user c.blocks (c.script u.user))
-  pub some_lines : 0 < length (c.script u.user)
   pub sound : (j : ℕ) → j < length (c.script u.user) → (0 < length (line_at (c.script u.user) j).bytes) × (length (line_at (c.script u.user) j).bytes ≤ MAX_GROUP) × ((line_at (c.script u.user) j).mode < 3)
   pub are_bytes : (j i : ℕ) → i < length (line_at (c.script u.user) j).bytes → slice_index (line_at (c.script u.user) j).bytes i < 256
 

@@ -17,7 +17,7 @@ use Rattle.model_core.specs.declared.ops.Step.{Step}
 use Rattle.model_core.specs.declared.ops.Step.TheVariants as step
 use Rattle.model_core.specs.declared.steps.UserStep.{UserStep}
 use Rattle.model_core.specs.Actors as actor
-use Rattle.model_logcore.proofs.NewUsers.{new_user_is}
+use Rattle.model_logcore.proofs.NewUsers.{new_step}
 use Rattle.model_logcore.specs.LogHalf.{left_to_reserve}
 use Rattle.model_logcore.specs.LogLaws.{LogLaws}
 use Rattle.model_own.specs.OwnTurn.{OtherTurn, OwnCore, OwnTurn, all_actors, with_writer}
@@ -131,7 +131,6 @@ module _ (D : LogSide) (L : LogLaws D) (E : DataSide) (EL : DataLaws E) (c : Set
       let there : get_elem? s.users 0 ≡ some o = ap (λ (us : List OwnUser). get_elem? us 0) one in
       let seat : get_elem? (all_actors s.users s.work s.others) 0 ≡ some (actor.User o.user) =
       ap (λ (us : List OwnUser). get_elem? (all_actors us s.work s.others) 0) one in
-      let k = new_user_is c o.user (S.store.each 0 (actor.User o.user) seat).1 in
       let off = (S.users 0 o there).0 in
       let unhelped = (S.users 0 o there).1 in
       let w = S.store.words in
@@ -145,7 +144,8 @@ module _ (D : LogSide) (L : LogLaws D) (E : DataSide) (EL : DataLaws E) (c : Set
           room = (let sn = w.sn in let ckpt = w.ckpt in
               subst (λ (x : ℕ). lsn (x + left_to_reserve (actor.User o.user)) + FREE_MARGIN ≤ S.shared.ckpt
               + BLOCK_SIZE * c.blocks) (sym sn) (omega arith));
-          user = subst (λ (t : UserStep). UserAlone S.shared o.user t) (sym k.step) tt;
+          user = new_step c o.user (S.store.each 0 (actor.User o.user) seat).1
+              (λ (t : UserStep). UserAlone S.shared o.user t) tt tt;
           errand = subst (λ (x : ErrandStep). ErrandAlone S.shared o.user s.work x) (sym off) tt;
           out = inl off;
           helped = λ h. let z : false ≡ true = sym unhelped ∙ h in absurd (cc);

@@ -12,6 +12,7 @@ pub mod PageHistory
 pub mod PageStart
 pub mod PageStep
 pub mod ReserveSteps
+pub mod TakesLine
 pub mod Unfinished
 pub mod UserPageSteps
 pub mod UserRoomSteps

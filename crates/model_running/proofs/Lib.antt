@@ -49,6 +49,7 @@ pub mod Seated
 pub mod SeatsKeep
 pub mod SlotHolders
 pub mod StartRunning
+pub mod TakesLines
 pub mod Turns
 pub mod TurnsAs
 pub mod UserCloses

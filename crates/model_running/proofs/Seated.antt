@@ -59,7 +59,7 @@ at_after : (users : List UserState) (others : List Actor) (i : ℕ) → get_elem
 at_after [] others i = ap (get_elem? others) (let z : 0 + i ≡ i = omega arith in z)
 at_after (u ∷ users) others i = ap (get_elem? (actor.User u ∷ (map actor.User users ++ others))) (let z : suc (length users) + i ≡ suc (length users + i) = omega arith in z) ∙ at_after users others i
 
-module _ (c : Setup) (actors : List Actor) (seated : AreSeated c actors) where
+module _ {live : Bool} (c : Setup) (actors : List Actor) (seated : AreSeated live c actors) where
   pub user_seat : (seat : ℕ) (u : UserState) → get_elem? actors seat ≡ maybe.some (actor.User u) → get_elem? seated.users seat ≡ maybe.some u
   user_seat seat u at = among_users seated.users others after seat u (subst (λ (l : List Actor). get_elem? l seat ≡ maybe.some (actor.User u)) seated.are at)
     where

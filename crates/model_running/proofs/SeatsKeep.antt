@@ -4,7 +4,7 @@ use Rattle.model_core.specs.{filled, Filling}
 use Rattle.model_core.specs.ReaderProgram.{reader_filled}
 use Rattle.std.proofs.Common.{Bool, List, [], ap, arith, false, inl, inr, length, map, refl, set, subst, suc, sym, true, zero, ℕ, ⊎_elim, ◌++◌, ◌<◌, ◌∙◌, ◌∷◌, ◌≡◌, ◌⊎◌}
 use lib.ListN.{get_elem?}
-use Rattle.model_core.proofs.Later.{later_trans, took_later}
+use Rattle.model_core.proofs.Later.{later_refl, later_trans, took_later}
 use Rattle.model_core.specs.{Actor, Core, FlusherState, took, UserState, WriterState}
 use Rattle.model_core.specs.DataSide.{DataSide}
 use Rattle.model_core.specs.Later.{IsSameActor}
@@ -13,6 +13,7 @@ use Rattle.model_core.specs.Setup.{Setup}
 use Rattle.model_core.specs.Turn.{Turn}
 use Rattle.model_core.specs.declared.ops.Answer.{Answer}
 use Rattle.model_core.specs.declared.ops.Step.{Step}
+use Rattle.model_running.proofs.Seated.{user_seat}
 use Rattle.model_running.specs.Seated.{AreSeated}
 use Rattle.model_running.specs.Seating.{ArePageActors, PageActors}
 use Rattle.model_core.specs.Actors as actor
@@ -47,6 +48,20 @@ users_forth [] (y ∷ ys) i u same at = absurd same
 users_forth (x ∷ xs) [] i u same at = absurd same
 users_forth (x ∷ xs) (y ∷ ys) zero u same at = (y, refl, same.0 ∙ ap (λ (z : UserState). z.user) (maybe.some-injective x u at))
 users_forth (x ∷ xs) (y ∷ ys) (suc i) u same at = users_forth xs ys i u same.1 at
+
+-- one user among them later, of the same number
+set_users : (users : List UserState) (rest : List Actor) (seat : ℕ) (u v : UserState) → get_elem? users seat ≡ maybe.some u
+    → ◌≡◌ {A = List Actor} (set (map actor.User users ++ rest) seat (actor.User v)) (map actor.User (set users seat v) ++ rest)
+set_users [] rest seat u v at = absurd (maybe.some-ne-none u (sym at))
+set_users (x ∷ xs) rest zero u v at = refl
+set_users (x ∷ xs) rest (suc i) u v at = ap (λ (l : List Actor). actor.User x ∷ l) (set_users xs rest i u v at)
+
+same_set : (users : List UserState) (seat : ℕ) (u v : UserState) → get_elem? users seat ≡ maybe.some u
+    → v.user ≡ u.user → SameUsers users (set users seat v)
+same_set [] seat u v at own = absurd (maybe.some-ne-none u (sym at))
+same_set (x ∷ xs) zero u v at own =
+    (own ∙ sym (ap (λ (z : UserState). z.user) (maybe.some-injective x u at)), users_refl xs)
+same_set (x ∷ xs) (suc i) u v at own = (refl, same_set xs i u v at own)
 
 -- a seat among the users, or after them
 pub record AtUser (users : List UserState) (rest : List Actor) (seat : ℕ) (b : Actor) : Type 0 where
@@ -99,8 +114,8 @@ others_there true others place a b are at same =
 others_there false others place a b are at same =
     subst (λ (l : List Actor). ArePageActors false (set l place b)) (sym are.2) (pages_there are.0 are.1 place a b (sym (ap (λ (l : List Actor). get_elem? l place) are.2) ∙ at) same)
 
-module _ (c : Setup) (actors : List Actor) (seated : AreSeated c actors) where
-  with_users : (after : List UserState) (writer : WriterState) (flusher : FlusherState) (others actors' : List Actor) → SameUsers seated.users after → ◌≡◌ {A = List Actor} actors' (map actor.User after ++ actor.Writer writer ∷ actor.Flusher flusher ∷ others) → ArePageActors c.log_only others → AreSeated c actors'
+module _ {live : Bool} (c : Setup) (actors : List Actor) (seated : AreSeated live c actors) where
+  with_users : (after : List UserState) (writer : WriterState) (flusher : FlusherState) (others actors' : List Actor) → SameUsers seated.users after → ◌≡◌ {A = List Actor} actors' (map actor.User after ++ actor.Writer writer ∷ actor.Flusher flusher ∷ others) → ArePageActors c.log_only others → AreSeated live c actors'
   with_users after writer flusher others actors' same are pages = let n = users_length seated.users after same in record {
     users = after;
     writer = writer;
@@ -112,15 +127,27 @@ module _ (c : Setup) (actors : List Actor) (seated : AreSeated c actors) where
         let a = users_back seated.users after i u same at in
         let b = users_back seated.users after (suc i) v same next in
         let l = seated.ascending i a.0 b.0 a.1 b.1 in let a2 = a.2 in let b2 = b.2 in omega arith;
-    have_lines = λ i u at. let a = users_back seated.users after i u same at in subst (λ (k : ℕ). 0 < length (c.script k)) (sym a.2) (seated.have_lines i a.0 a.1);
+    have_lines = λ fixed i u at. let a = users_back seated.users after i u same at in
+        subst (λ (k : ℕ). 0 < length (c.script k)) (sym a.2) (seated.have_lines fixed i a.0 a.1);
     all = λ user lines. let r = seated.all user lines in let v = users_forth seated.users after r.0 r.1 same r.2 in (r.0, v.0, v.1, v.2 ∙ r.3);
     closer = (let z = seated.closer in omega arith);
     cleaner = (let z = seated.cleaner in omega arith);
     checkpointer = (let z = seated.checkpointer in omega arith);
   }
 
+  -- a user may become another one of its number
+  pub user_keeps : (seat : ℕ) (u v : UserState) → get_elem? actors seat ≡ maybe.some (actor.User u) → v.user ≡ u.user
+      → AreSeated live c (set actors seat (actor.User v))
+  user_keeps seat u v at own =
+      let here = user_seat c actors seated seat u at in
+      let rest : List Actor = actor.Writer seated.writer ∷ actor.Flusher seated.flusher ∷ seated.others in
+      with_users (set seated.users seat v) seated.writer seated.flusher seated.others (set actors seat (actor.User v))
+      (same_set seated.users seat u v here own)
+      (ap (λ (l : List Actor). set l seat (actor.User v)) seated.are ∙ set_users seated.users rest seat u v here)
+      seated.page_actors
+
   other_seat : (seat place : ℕ) (a b : Actor) → get_elem? (actor.Writer seated.writer ∷ actor.Flusher seated.flusher ∷ seated.others) place ≡ maybe.some a → IsSameActor a b
-      → (actors' : List Actor) → ◌≡◌ {A = List Actor} actors' (map actor.User seated.users ++ set (actor.Writer seated.writer ∷ actor.Flusher seated.flusher ∷ seated.others) place b) → AreSeated c actors'
+      → (actors' : List Actor) → ◌≡◌ {A = List Actor} actors' (map actor.User seated.users ++ set (actor.Writer seated.writer ∷ actor.Flusher seated.flusher ∷ seated.others) place b) → AreSeated live c actors'
   other_seat seat zero a b at same actors' are =
       let w = subst (λ (z : Actor). IsSameActor z b) (sym (maybe.some-injective (actor.Writer seated.writer) a at)) same in
       with_users seated.users w.0 seated.flusher seated.others actors' (users_refl seated.users) (are ∙ ap (λ (z : Actor). map actor.User seated.users ++ z ∷ actor.Flusher seated.flusher ∷ seated.others) w.1) seated.page_actors
@@ -130,7 +157,7 @@ module _ (c : Setup) (actors : List Actor) (seated : AreSeated c actors) where
   other_seat seat (suc (suc place)) a b at same actors' are =
       with_users seated.users seated.writer seated.flusher (set seated.others place b) actors' (users_refl seated.users) are (others_there c.log_only seated.others place a b seated.page_actors at same)
 
-  pub seats_keep : (seat : ℕ) (a b : Actor) → get_elem? actors seat ≡ maybe.some a → IsSameActor a b → AreSeated c (set actors seat b)
+  pub seats_keep : (seat : ℕ) (a b : Actor) → get_elem? actors seat ≡ maybe.some a → IsSameActor a b → AreSeated live c (set actors seat b)
   seats_keep seat a b at same =
       let rest : List Actor = actor.Writer seated.writer ∷ actor.Flusher seated.flusher ∷ seated.others in
       let at' : get_elem? (map actor.User seated.users ++ rest) seat ≡ maybe.some a = sym (ap (λ (l : List Actor). get_elem? l seat) seated.are) ∙ at in
@@ -142,7 +169,7 @@ module _ (c : Setup) (actors : List Actor) (seated : AreSeated c actors) where
 -- what a turn puts into an actor leaves it the same
 pub filled_later : (a : Actor) (f : Filling) → IsSameActor a (filled a f)
 filled_later (actor.Reader r) f = (reader_filled r f r.step, refl)
-filled_later (actor.User u) f = (u, refl, refl, refl)
+filled_later (actor.User u) f = later_refl (actor.User u)
 filled_later (actor.Writer s) f = (s, refl)
 filled_later (actor.Flusher s) f = (s, refl)
 filled_later (actor.Closer s) f = (s, refl)
@@ -150,6 +177,6 @@ filled_later (actor.Cleaner s) f = (s, refl)
 filled_later (actor.Checkpointer s) f = (s, refl)
 
 -- a turn, and so a run of turns, leaves the actors in their seats
-pub turn_keeps_seats : (D : LogSide) (E : DataSide) (c : Setup) (old new : Core D E) (seat : ℕ) (answer : Answer) (step : Step) → AreSeated c old.actors → Turn D E old seat answer step new → AreSeated c new.actors
-turn_keeps_seats D E c old new seat answer step seated t = subst (AreSeated c) (sym t.actors) (seats_keep c old.actors seated seat t.who (took (filled t.who t.filling) answer) t.who_is
+pub turn_keeps_seats : {live : Bool} (D : LogSide) (E : DataSide) (c : Setup) (old new : Core D E) (seat : ℕ) (answer : Answer) (step : Step) → AreSeated live c old.actors → Turn D E old seat answer step new → AreSeated live c new.actors
+turn_keeps_seats {live} D E c old new seat answer step seated t = subst (AreSeated live c) (sym t.actors) (seats_keep c old.actors seated seat t.who (took (filled t.who t.filling) answer) t.who_is
     (later_trans t.who (filled t.who t.filling) (took (filled t.who t.filling) answer) (filled_later t.who t.filling) (took_later (filled t.who t.filling) answer)))

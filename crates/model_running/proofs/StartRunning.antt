@@ -10,7 +10,7 @@ use Rattle.model_core.specs.DataSide.{DataSide}
 use Rattle.model_core.specs.LogSide.{LogSide}
 use Rattle.model_core.specs.Setup.{Setup}
 use Rattle.model_logcore.proofs.DeviceSteps.{alone}
-use Rattle.model_logcore.proofs.NewUsers.{new_user_is}
+use Rattle.model_logcore.proofs.NewUsers.{new_step, new_user_is}
 use Rattle.model_logcore.proofs.StartHolds.{half_starts, start}
 use Rattle.model_logcore.specs.{checkpointer_start, cleaner_start, closer_start, left_to_reserve, StartActor, sum_over_actors}
 use Rattle.model_core.specs.StartWords.{start_checkpoint}
@@ -69,8 +69,8 @@ module _ (D : LogSide) (E : DataSide) (c : Setup) (m : SharedWords) (p : D.Part)
     ascending = λ j n a b lt l. subst (λ (ls : List Line). b < length (change_at (line_at ls j).changes n).cells → (get_or (change_at (line_at ls j).changes n).cells a (record { at = 0; value = 0 })).at < (get_or (change_at (line_at ls j).changes n).cells b (record { at = 0; value = 0 })).at) (sym k.lines) (S.script.ascending u.user j n a b lt) l;
     are_bytes = λ j n i. subst (λ (ls : List Line). (get_or (change_at (line_at ls j).changes n).cells i (record { at = 0; value = 0 })).value < 256) (sym k.lines) (S.script.are_bytes u.user j n i);
     loaded = (let z : u.loaded.ctail ≡ 0 = ap (λ (z : LoadedMarks). z.ctail) k.loaded in omega arith);
-    closing = subst (λ f. UserClosingAt E c m [] (start_pages c) (λ _. []) d seat u.advance f) (sym k.step) tt;
-    step = subst (λ f. UserPagesAt E c m [] (start_pages c) (λ _. []) d seat u f) (sym k.step) tt;
+    closing = new_step c u h.1 (λ f. UserClosingAt E c m [] (start_pages c) (λ _. []) d seat u.advance f) tt tt;
+    step = new_step c u h.1 (λ f. UserPagesAt E c m [] (start_pages c) (λ _. []) d seat u f) tt tt;
   }
   page_fits seat (actor.Writer s) at h = tt
   page_fits seat (actor.Flusher t) at h = tt
@@ -119,9 +119,9 @@ module _ (D : LogSide) (E : DataSide) (c : Setup) (m : SharedWords) (p : D.Part)
         subst (RunBlockAt D c [] r) (sym (ap (λ (x : ReaderState). x.step) h.3)) tt;
     stays = λ _. w.ckpt;
     advanced = λ held. let free = S.page_words.cheld in absurd (cc);
-    closed = λ seat u at. let k = new_user_is c u (S.each seat (actor.User u) at).1 in record {
+    closed = λ seat u at. record {
       answered = λ i e is. absurd (some-ne-none e (sym is));
-      in_hand = subst (λ f. HandIsClosed (λ _. false) u f) (sym k.step) tt;
+      in_hand = new_step c u (S.each seat (actor.User u) at).1 (λ f. HandIsClosed (λ _. false) u f) tt tt;
     };
     paged = pages_start E c m (D.stable p) (start_pages c) d actors (record {
       page_words = S.page_words.page_words;

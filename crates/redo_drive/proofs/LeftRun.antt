@@ -53,11 +53,11 @@ use Rattle.redo_drive.proofs.LogPartEnds.{log_tells}
 use Rattle.redo_drive.specs.LogPartSide as log_part
 use Rattle.redo_drive.proofs.SyncedParts.{data_is_synced, log_tells_synced}
 use Rattle.redo_drive.specs.Beginning.{HaveBegun}
-use Rattle.redo_drive.specs.Startable.{AreNewFollowers, HasReading, MayBegin}
+use Rattle.redo_drive.specs.Startable.{AreNewFollowers, HasReading}
 use Rattle.redo_drive.specs.Calls.{CallsOn}
 use Rattle.redo_drive.specs.Drive.{ComesToRun, HasMemory, HasMetError, HoldsRun, IsOwedSynced, Owes, closed_run, failed_in}
 use Rattle.redo_drive.specs.Followed.{given_upto, HasFollowed, HasSameNumber, HaveFollowed}
-use Rattle.redo_drive.specs.Leaving.{LeavesWith}
+use Rattle.redo_drive.specs.Leaving.{LeavesAs}
 use Rattle.redo_drive.specs.Making.{EndsWithReaders}
 use Rattle.redo_drive.specs.Playing.{RunOf, run_data_side, run_log_side}
 use Rattle.redo_drive.specs.Receiving.{follower_of, IsSameFollower}
@@ -73,6 +73,7 @@ use Rattle.redo_drive.specs.declared.actor.Actor.TheVariants as own
 use Rattle.redo_drive.specs.declared.drive.Driven.{Driven}
 use Rattle.redo_drive.specs.declared.drive.RunEnd.TheVariants as ended
 use Rattle.redo_drive.specs.declared.seating.TheConstants.{FIRST_FOLLOWER}
+use Rattle.redo_store.specs.{IsRunnable}
 use Rattle.redo_store.specs.declared.opened.Opened.{Opened}
 use Rattle.redo_store.specs.Part as store
 use Rattle.redo_drive.proofs.FollowersLeft.{all_pairs, among, groups_are, Pair, starts_with}
@@ -91,11 +92,12 @@ failure_counts : (fault : DevError) (failed : Option DevError) (all : ℕ) → f
 failure_counts Failed failed all is counts memory = let n : failures failed ≡ 1 = ap failures is in omega arith
 failure_counts NoMemory failed all is counts memory = memory is
 
-module _ {L D R : Type 0} {archive : Bool} (log_seen : L → Seen) (log_gives : L → Call → L → Type 0) (data_seen : D → Seen)
+module _ {L D R : Type 0} {live archive : Bool} (log_seen : L → Seen) (log_gives : L → Call → L → Type 0)
+    (data_seen : D → Seen)
     (data_gives : D → Call → D → Type 0) (stands : R → List Given → Type 0) (opened : Opened L D)
     (script : List ScriptLine) (log_only : Bool) (followers : ℕ) (starts actors : List (Actor R)) (driven : Driven L D)
-    (by : LeavesWith log_seen log_gives data_seen data_gives stands opened script log_only archive followers starts actors
-    driven.closed) where
+    (by : LeavesAs log_seen log_gives data_seen data_gives stands opened script live log_only archive followers starts
+    actors driven.closed) where
   abbrev run : RunOf L D
   run = by.run
 
@@ -119,7 +121,9 @@ module _ {L D R : Type 0} {archive : Bool} (log_seen : L → Seen) (log_gives : 
   left_of_run : (left : List (ℕ × ℕ)) → IsLeft script driven.closed.history left → IsLeft script (run_of run.setup by.from.runs.running.log_ghost by.from.runs.running.shared).entries left
   left_of_run left is = subst (λ (z : List Entry). IsLeft script z left) by.history is
 
-  is_run : (end : ℕ) → opened.start ≡ start_after end → IsRun script (record { shape = opened.shape; pages = opened.pages; end = end }) ran
+  -- at any moment it is a run of the script
+  pub is_run : (end : ℕ) → opened.start ≡ start_after end
+      → IsRun script (record { shape = opened.shape; pages = opened.pages; end = end }) ran
   is_run end start =
       let was : theorem.Opened = record { shape = opened.shape; pages = opened.pages; end = end } in
       subst (IsRun script was) ran_is
@@ -162,15 +166,18 @@ module _ {L D R : Type 0} {archive : Bool} (log_seen : L → Seen) (log_gives : 
       (λ failed. ⊎_elim (λ c. cause.log by.from.runs.running.shared.failed c) (⊎_elim (λ c. cause.data_part by.from.runs.running.shared.failed c) (λ c. cause.archive by.from.runs.running.shared.failed c)) (by.from.runs.running.both.cause failed)) (left_of_run left left_is))
 
   -- the devices came here by calls, the log's and the data's
-  log_calls : MayBegin opened script log_only → CallsOn log_gives opened.log.dev None driven.closed.log.dev driven.closed.log.failed
+  log_calls : IsRunnable opened → CallsOn log_gives opened.log.dev None driven.closed.log.dev driven.closed.log.failed
   log_calls may = subst (λ (z : log.Part L). CallsOn log_gives opened.log.dev None z.dev z.failed) (sym by.log)
-      (subst (λ (o : Option DevError). CallsOn log_gives opened.log.dev o by.last.log.dev by.last.log.failed) may.runnable.log_live by.log_calls)
+      (subst (λ (o : Option DevError). CallsOn log_gives opened.log.dev o by.last.log.dev by.last.log.failed)
+      may.log_live by.log_calls)
 
-  data_calls : MayBegin opened script log_only → CallsOn data_gives opened.store.dev None driven.closed.store.dev driven.closed.store.failed
+  data_calls : IsRunnable opened
+      → CallsOn data_gives opened.store.dev None driven.closed.store.dev driven.closed.store.failed
   data_calls may = subst (λ (z : store.Part D). CallsOn data_gives opened.store.dev None z.dev z.failed) (sym by.data_part)
-      (subst (λ (o : Option DevError). CallsOn data_gives opened.store.dev o by.last.store.dev by.last.store.failed) may.runnable.data_live by.data_calls)
+      (subst (λ (o : Option DevError). CallsOn data_gives opened.store.dev o by.last.store.dev by.last.store.failed)
+      may.data_live by.data_calls)
 
-  pub comes_to_run : MayBegin opened script log_only → (driven.ended ≡ ended.Done → HaveEnded (views_of actors))
+  pub comes_to_run : IsRunnable opened → (driven.ended ≡ ended.Done → HaveEnded (views_of actors))
       → ((turns user : ℕ) → driven.ended ≡ ended.Spent turns user → LeavesOpen script driven.closed.history (HasMetError driven.closed) user) → ComesToRun log_gives data_gives opened script driven
   comes_to_run may ended spent = record {
     is_run = is_run;
@@ -189,7 +196,7 @@ module _ {L D R : Type 0} {archive : Bool} (log_seen : L → Seen) (log_gives : 
       (λ lost. inr (inr (λ none. let met = lost_by code lost in
       let bad : None ≡ Some met.0 = sym none ∙ met.1 in absurd (cc))))) cause
 
-  module _ (may : MayBegin opened script log_only) (reading : Reading) (as_read : HasReading reading opened) where
+  module _ (may : IsRunnable opened) (reading : Reading) (as_read : HasReading reading opened) where
     its_pages : HasItsPages run.setup (opened_as reading)
     its_pages = let its = by.is_run.its_pages in record {
       count = its.count ∙ ap (λ (z : Shape). z.pages) as_read.shape;
@@ -198,7 +205,7 @@ module _ {L D R : Type 0} {archive : Bool} (log_seen : L → Seen) (log_gives : 
     }
 
     log_shape : ◌≡◌ {A = Shape} by.last.log.shape (run_shape reading.shape)
-    log_shape = by.log_shape ∙ may.runnable.log_shape ∙ as_read.shape
+    log_shape = by.log_shape ∙ may.log_shape ∙ as_read.shape
 
     -- what the log device holds of the run, and the data device
     log_device : HaveBegun log_seen data_seen run → (disk : Disk) → (log_seen driven.closed.log.dev).tells ≡ Some disk → LogTells logs run.setup (run_shape reading.shape) (reading.number + numbers_taken reading.format) by.last.log disk
@@ -270,12 +277,13 @@ module _ {L D R : Type 0} {archive : Bool} (log_seen : L → Seen) (log_gives : 
       if_told (log_seen driven.closed.log.dev).tells _ (λ log_now log_now_told. if_told (data_seen driven.closed.store.dev).tells _ (λ data_now data_now_told.
       each log_disk data_disk log_now data_now start begun log_now_told data_now_told)))
 
-  pub holds_run : MayBegin opened script log_only → HoldsRun log_seen data_seen opened script driven
+  pub holds_run : IsRunnable opened → HoldsRun log_seen data_seen opened script driven
   holds_run may reading as_read =
       where_told reading as_read _ (λ log_disk data_disk log_now data_now start begun log_told data_told.
       held may reading as_read log_disk data_disk log_now data_now start (log_device may reading as_read begun log_now log_told) (data_device may reading as_read begun data_now data_told))
 
-  pub is_owed_synced : MayBegin opened script log_only → (driven.ended ≡ ended.Done → HaveEnded (views_of actors)) → IsOwedSynced log_seen data_seen opened script driven
+  pub is_owed_synced : IsRunnable opened → (driven.ended ≡ ended.Done → HaveEnded (views_of actors))
+      → IsOwedSynced log_seen data_seen opened script driven
   is_owed_synced may ended log_live data_live reading left done memory as_read left_is =
       where_told reading as_read _ (λ log_disk data_disk log_now data_now start begun log_told data_told. record {
         holds = held may reading as_read log_disk data_disk (synced log_now) (synced data_now) start
@@ -285,7 +293,7 @@ module _ {L D R : Type 0} {archive : Bool} (log_seen : L → Seen) (log_gives : 
       })
 
   -- so a drive owes nothing more
-  pub owes : MayBegin opened script log_only → (driven.ended ≡ ended.Done → HaveEnded (views_of actors))
+  pub owes : IsRunnable opened → (driven.ended ≡ ended.Done → HaveEnded (views_of actors))
       → ((turns user : ℕ) → driven.ended ≡ ended.Spent turns user → LeavesOpen script driven.closed.history (HasMetError driven.closed) user) → Owes log_seen log_gives data_seen data_gives opened script driven
   owes may ended spent = record {
     comes_to = comes_to_run may ended spent;

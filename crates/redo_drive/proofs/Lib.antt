@@ -13,12 +13,14 @@ pub mod Devices
 pub mod FailedTurns
 pub mod FailureCode
 pub mod Filled
+pub mod FirstUsers
 pub mod FollowersLeft
 pub mod InOrder
 pub mod LeftRun
 pub mod Lent
 pub mod ListGrows
 pub mod Listings
+pub mod LiveStarts
 pub mod LogCount
 pub mod LogMayCall
 pub mod LogPartEnds
@@ -49,5 +51,6 @@ pub mod Taken
 pub mod ThinTurns
 pub mod Told
 pub mod TurnsOf
+pub mod UserEntries
 pub mod UserLines
 pub mod Viewed

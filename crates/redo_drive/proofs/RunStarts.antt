@@ -1,7 +1,7 @@
 -- New actors, the words of a start and empty lists stand at the beginning of a run.
 use Rattle.std.proofs.Common.{Bool, List, None, Option, Some, [], ap, append-nil, arith, cond, false, length, ltb}
-use Rattle.std.proofs.Common.{refl, slice_get, slice_index, subst, suc, sym, true, zero, ℕ, ◌%◌, ◌*◌, ◌+◌, ◌-◌, ◌/◌}
-use Rattle.std.proofs.Common.{◌<◌, ◌∙◌, ◌∷◌, ◌≡◌}
+use Rattle.std.proofs.Common.{map, refl, slice_get, slice_index, subst, suc, sym, true, zero, ℕ, ◌%◌, ◌*◌, ◌+◌}
+use Rattle.std.proofs.Common.{◌-◌, ◌/◌, ◌<◌, ◌∙◌, ◌∷◌, ◌≡◌}
 use Rattle.std.proofs.lemmas.Bool.{le-ltb}
 use Rattle.std.proofs.lemmas.List.{get_or_past}
 use Rattle.std.specs.List.{AllByRecursion}
@@ -13,7 +13,7 @@ use Rattle.model_base.specs.declared.limits.TheConstants.{LSN_LIMIT}
 use Rattle.model_base.specs.declared.shape.Shape.{Shape}
 use Rattle.model_core.proofs.Groups.{tiles_le}
 use Rattle.model_core.specs.{Actor, archives, change_at, changes_of, Entry, flat, Given, layout_of, Line, line_at, Listed, lsn}
-use Rattle.model_core.specs.{Tiles}
+use Rattle.model_core.specs.{Tiles, UserState}
 use Rattle.model_core.specs.DataSide.{DataSide}
 use Rattle.model_core.specs.LogSide.{LogSide}
 use Rattle.model_core.specs.Setup.{Setup}
@@ -34,7 +34,7 @@ use Rattle.model_running.proofs.StartRunning.{store_starts}
 use Rattle.model_running.specs.{AreSeated, IsRunning}
 use Rattle.model_running.specs.RunningStore.{RunningStore}
 use Rattle.model_running.specs.StartStore.{StartStore}
-use Rattle.model_script.specs.{group_of, LineFits}
+use Rattle.model_script.specs.{group_of, IsScriptLine, LineFits}
 use Rattle.model_script.specs.declared.script.ScriptLine.{ScriptLine}
 use Rattle.model_store.specs.Reading.{Reading}
 use Rattle.redo_drive.proofs.DataPartStarts as data_starting
@@ -44,27 +44,28 @@ use Rattle.redo_drive.proofs.LogPartStarts as log_starting
 use Rattle.redo_drive.specs.LogPartSide as log_side
 use Rattle.redo_drive.proofs.Begun.{data_begun, log_begun}
 use Rattle.model_running.proofs.LineBytes.{GetsBytes, changes_get_bytes}
-use Rattle.redo_drive.proofs.ScriptRoom.{room_for_all}
-use Rattle.redo_drive.proofs.StartActors.{IsNew, are_new, are_seated, seat_of_user, writer_seat}
+use Rattle.redo_drive.proofs.FirstUsers.{AreFirstUsers}
+use Rattle.redo_drive.proofs.StartActors.{IsNew, are_new, are_seated}
 use Rattle.redo_drive.proofs.StartWordsPages.{has_opened_pages}
 use Rattle.redo_drive.proofs.UserLines.{of_script, of_user}
 use Rattle.redo_drive.specs.Beginning.{HaveBegun}
-use Rattle.redo_drive.specs.Startable.{AreNewFollowers, HasReading, MayBegin}
-use Rattle.redo_drive.specs.Begins.{BeginsWith}
+use Rattle.redo_drive.specs.Startable.{AreNewFollowers, HasReading}
+use Rattle.redo_drive.specs.Begins.{BeginsOn}
 use Rattle.redo_drive.specs.Lists.{Listings, empty_lists, lists_of}
-use Rattle.redo_drive.specs.Making.{IsOwnOf}
+use Rattle.redo_drive.specs.Making.{begun_on, IsOwnOf}
 use Rattle.redo_drive.specs.Playing.{RunOf, run_data_side, run_log_side}
 use Rattle.redo_drive.specs.Receiving.{follower_of, HasGot, IsSameFollower}
 use Rattle.redo_drive.specs.Running.{groups_of, RunsFromWith, RunsWith}
 use Rattle.redo_drive.specs.Turning.{core_of}
-use Rattle.redo_drive.specs.Setups.{first_reader, programs_of}
+use Rattle.redo_drive.specs.Setups.{first_reader, programs_of, with_others}
 use Rattle.redo_drive.specs.StartWords.{setup_of}
 use Rattle.redo_drive.specs.StartWords.{AreStartWords, StartsOn}
 use Rattle.redo_drive.specs.Views.{view_of, views_of}
 use Rattle.redo_drive.specs.declared.actor.Actor as own_actor
 use Rattle.redo_drive.specs.declared.making.Beginning.{Beginning}
-use Rattle.redo_drive.specs.declared.making.Own.{Own}
+use Rattle.redo_drive.specs.declared.memory.Own.{Own}
 use Rattle.redo_follow.specs.Following.{Following}
+use Rattle.redo_store.specs.{IsRunnable}
 use Rattle.redo_store.specs.declared.opened.Opened.{Opened}
 
 -- no page is in an empty list
@@ -84,7 +85,7 @@ sn_at_start start place =
     ∙ ap (λ (b : Bool). start / 512 * BLOCK_DATA + cond b BLOCK_DATA (start % 512 - 12)) last ∙ omega arith
 
 -- so its lsn comes back from its sn
-lsn_at_start : (start : ℕ) → IsAtDataStart start → lsn (sn_of start) ≡ start
+pub lsn_at_start : (start : ℕ) → IsAtDataStart start → lsn (sn_of start) ≡ start
 unfolding lsn
 lsn_at_start start place = ap lsn_of (sn_at_start start place) ∙ omega arith
 
@@ -95,7 +96,7 @@ lines_get_bytes : (shape : Shape) (pages : List Content) (start : ℕ) (script :
 lines_get_bytes shape pages start script log_only fits user j k = elim (dec_le (length (programs_of shape log_only script user)) j) [
   | yes past ↦ subst (λ (line : Line). GetsBytes (change_at line.changes k)) (sym (get_or_past (programs_of shape log_only script user) j (record { mode = 0; bytes = []; changes = [] }) past)) (λ i. omega arith)
   | no there ↦ (
-      let is = of_script shape pages start script log_only false 0 (omega arith) in
+      let is = of_script shape pages start script 0 log_only false 0 (omega arith) in
       let count = is.count user in
       let one = line_below (lines_of_user user script) j (omega arith) in
       subst (λ (line : Line). GetsBytes (change_at line.changes k)) (sym (is.each user j one.0 one.1)) (by log_only one.0 (of_user (LineFits shape) script user j one.0 fits one.1).0))
@@ -140,16 +141,34 @@ got_none : {R : Type 0} (stands : R → List Given → Type 0) (f : Option (Foll
 got_none stands None = tt
 got_none stands (Some f) = λ before is. subst (λ (l : List Given). stands f.receiver l) (sym (append-nil before)) is
 
+-- A RUN OF A SCRIPT CAN BEGIN on the store, a live one or not, with these users.
+pub record CanBegin {L D R : Type 0} (opened : Opened L D) (script : List ScriptLine) (live log_only archive : Bool)
+    (followers : List (Following R)) (seat_of : ℕ → ℕ) (users : List UserState) : Type 0 where
+  pub runnable : IsRunnable opened
+  pub lines : AllByRecursion IsScriptLine script
+  pub fits : AllByRecursion (LineFits opened.shape) script
+  pub new : AreNewFollowers opened.start followers
+  pub firsts : AreFirstUsers live (run_layout opened.shape).blocks (programs_of opened.shape log_only script) seat_of
+      users
+  -- the log has room for all that the actors may reserve
+  pub room : lsn (sn_of opened.start + sum_over_actors left_to_reserve (with_others (map actor.User users) opened.shape
+      opened.start log_only archive (length followers))) < LSN_LIMIT
+
 module _ {L D R : Type 0} (log_seen : L → Seen) (data_seen : D → Seen) (stands : R → List Given → Type 0)
-    (opened : Opened L D) (script : List ScriptLine) (log_only archive : Bool) (followers : List (Following R))
-    (may : MayBegin opened script log_only) (new : AreNewFollowers opened.start followers) (own : Own R)
-    (owns : IsOwnOf opened.shape opened.pages script opened.start log_only archive followers own) where
+    (opened : Opened L D) (script : List ScriptLine) (live log_only archive : Bool) (followers : List (Following R))
+    (seat_of : ℕ → ℕ) (users_with : (log_only : Bool) → List UserState)
+    (can : CanBegin opened script live log_only archive followers seat_of (users_with log_only)) (own : Own R)
+    (owns : IsOwnOf opened.shape opened.pages opened.start (with_others (map actor.User (users_with log_only))
+    opened.shape opened.start log_only archive (length followers)) archive followers (length script) own) where
+  abbrev users : List UserState
+  users = users_with log_only
+
   -- the run
   abbrev setup : Setup
-  setup = setup_of opened.shape opened.pages opened.start script log_only archive (length followers)
+  setup = setup_of opened.shape opened.pages opened.start script (length users) log_only archive (length followers)
 
   abbrev run : RunOf L D
-  run = record { setup = setup; shape = opened.shape; first_log = opened.log; first_data = opened.store }
+  run = record { setup = setup; live = live; shape = opened.shape; first_log = opened.log; first_data = opened.store }
 
   abbrev log_part : LogSide
   log_part = run_log_side log_seen data_seen run
@@ -157,32 +176,25 @@ module _ {L D R : Type 0} (log_seen : L → Seen) (data_seen : D → Seen) (stan
   abbrev data_part : DataSide
   data_part = run_data_side log_seen data_seen run
 
-  abbrev seat_of : ℕ → ℕ
-  seat_of = seat_of_user opened.shape log_only script
-
   abbrev writer : ℕ
-  writer = writer_seat opened.shape log_only script
+  writer = length users
 
   abbrev start : Beginning L D R
-  start = record {
-    parts = record { words = own.words; log = opened.log; store = opened.store; lists = own.lists };
-    actors = own.actors;
-    entries = own.entries;
-  }
+  start = begun_on opened own
 
   place : lsn setup.base ≡ opened.start
-  place = lsn_at_start opened.start may.runnable.place
+  place = lsn_at_start opened.start can.runnable.place
 
   even : setup.base % BLOCK_DATA ≡ 0
-  even = let e = sn_at_start opened.start may.runnable.place in omega arith
+  even = let e = sn_at_start opened.start can.runnable.place in omega arith
 
   starts_on : StartsOn opened.start opened.shape opened.pages setup
   starts_on = record {
     begins = place;
-    count = sym may.runnable.its_pages.count;
+    count = sym can.runnable.its_pages.count;
     page_size = refl;
     opened = λ p there. refl;
-    early = may.runnable.not_ahead;
+    early = can.runnable.not_ahead;
   }
 
   -- the words and the actors are those of the start
@@ -190,28 +202,29 @@ module _ {L D R : Type 0} (log_seen : L → Seen) (data_seen : D → Seen) (stan
   words = owns.words setup starts_on
 
   fit : (user k : ℕ) (one : ScriptLine) → slice_get (lines_of_user user script) k ≡ Some one → LineFits opened.shape one
-  fit user k one at = (of_user (LineFits opened.shape) script user k one may.fits.lines at).0
+  fit user k one at = (of_user (LineFits opened.shape) script user k one can.fits at).0
 
   new_actors : (seat : ℕ) (a : Actor) → get_elem? (views_of own.actors.items) seat ≡ some a → IsNew setup seat_of writer seat a
-  new_actors seat a at = are_new opened.shape opened.pages opened.start script log_only archive (length followers)
-      new.few may.lines may.fits.lines place seat a
+  new_actors seat a at = are_new opened.shape opened.pages opened.start script live log_only archive (length followers)
+      can.new.few can.lines can.fits seat_of users can.firsts place seat a
       (subst (λ (actors : List Actor). get_elem? actors seat ≡ some a) owns.actors at)
 
   -- and so are both parts
   log_starts : StartPart log_part setup opened.log
   log_starts = log_starting.part_starts log_seen setup opened.log.marks.number opened.log even
-      (let small = may.runnable.small in let z = place in omega arith)
-      (ap (λ (s : Shape). (run_layout s).blocks) may.runnable.log_shape) may.runnable.log_live
-      (may.runnable.log_marks ∙ ap (λ (n : ℕ). let marks : LogMarks = first_marks n opened.log.marks.number in marks) (sym place))
+      (let small = can.runnable.small in let z = place in omega arith)
+      (ap (λ (s : Shape). (run_layout s).blocks) can.runnable.log_shape) can.runnable.log_live
+      (can.runnable.log_marks ∙ ap (λ (n : ℕ). let marks : LogMarks = first_marks n opened.log.marks.number in marks) (sym place))
 
   data_starts : StartsHolding data_part setup opened.store
-  data_starts = data_starting.part_starts data_seen setup opened.shape opened.store may.runnable.data_shape may.runnable.data_live
+  data_starts = data_starting.part_starts data_seen setup opened.shape opened.store can.runnable.data_shape can.runnable.data_live
 
   -- what stands at its start
   store_start : StartStore log_part data_part setup words.by_name opened.log opened.store seat_of writer (views_of own.actors.items)
   store_start = record {
-    script = scripted setup script opened.shape may.runnable.limits refl refl refl (of_script opened.shape opened.pages opened.start script log_only archive (length followers) new.few) fit;
-    some_page = may.runnable.limits.some_pages;
+    script = scripted setup script opened.shape can.runnable.limits refl refl refl (of_script opened.shape opened.pages
+        opened.start script (length users) log_only archive (length followers) can.new.few) fit;
+    some_page = can.runnable.limits.some_pages;
     words = words.of_log;
     page_words = words.of_pages;
     log_part = log_starts;
@@ -229,7 +242,7 @@ module _ {L D R : Type 0} (log_seen : L → Seen) (data_seen : D → Seen) (stan
   is_running =
       let room : lsn (setup.base + sum_over_actors left_to_reserve (views_of own.actors.items)) < LSN_LIMIT =
       subst (λ (actors : List Actor). lsn (setup.base + sum_over_actors left_to_reserve actors) < LSN_LIMIT) (sym owns.actors)
-      (room_for_all opened.shape script opened.start log_only archive (length followers) may.fits.lines may.fits.end) in
+      can.room in
       let none : ◌≡◌ {A = ℕ → List Listed} (lists_of own.lists) (λ _. []) = λ k i. none_at i k in
       subst (λ (layout : Layout). RunningStore log_part data_part setup layout own.words.words (lists_of own.lists) opened.log
       opened.store (views_of own.actors.items)) (sym owns.layout)
@@ -239,17 +252,17 @@ module _ {L D R : Type 0} (log_seen : L → Seen) (data_seen : D → Seen) (stan
 
   runs : RunsWith log_seen data_seen run archive start.parts (views_of own.actors.items)
   runs = record {
-    limits = may.runnable.limits;
-    started = (let low = may.runnable.first in omega (arith, place));
+    limits = can.runnable.limits;
+    started = (let low = can.runnable.first in omega (arith, place));
     its_pages = refl;
     its_page_size = refl;
     followers = none_archives archive;
-    bytes = record { opened = owns.bytes; cells = λ user j k i. lines_get_bytes opened.shape opened.pages opened.start script log_only may.fits.lines user j k i };
+    bytes = record { opened = owns.bytes; cells = λ user j k i. lines_get_bytes opened.shape opened.pages opened.start script log_only can.fits user j k i };
     its_slots = refl;
     list_pages = ap (λ (lists : Listings). lists.pages) owns.lists;
     running = is_running;
-    seated = subst (AreSeated setup) (sym owns.actors) (are_seated opened.shape opened.pages opened.start script log_only archive (length followers)
-        new.few may.lines may.fits.lines);
+    seated = subst (AreSeated live setup) (sym owns.actors) (are_seated opened.shape opened.pages opened.start script
+        live log_only archive (length followers) can.new.few can.lines can.fits seat_of users can.firsts);
   }
     where
       none_archives : (b : Bool) → cond b (Unit {0}) (0 < first_reader b)
@@ -278,19 +291,22 @@ module _ {L D R : Type 0} (log_seen : L → Seen) (data_seen : D → Seen) (stan
   }
 
   -- where the store was ready, its devices hold what was opened
-  begun_on : (reading : Reading) (log_disk data_disk : Disk) → HasReading reading opened → (log_seen opened.log.dev).tells ≡ Some log_disk → (data_seen opened.store.dev).tells ≡ Some data_disk
+  holds_opened : (reading : Reading) (log_disk data_disk : Disk) → HasReading reading opened
+      → (log_seen opened.log.dev).tells ≡ Some log_disk → (data_seen opened.store.dev).tells ≡ Some data_disk
       → IsStart reading script log_disk data_disk → HaveBegun log_seen data_seen run
-  begun_on reading log_disk data_disk reads log_tells data_tells is =
+  holds_opened reading log_disk data_disk reads log_tells data_tells is =
       let start : opened.start ≡ start_of reading = reads.start in record {
         log = subst (λ (n : ℕ). log_side.HasBegun log_seen n opened.log) (sym (place ∙ start))
-            (log_begun reading script log_disk data_disk is log_seen opened.log (may.runnable.log_shape ∙ reads.shape) may.runnable.log_live
-            (may.runnable.log_marks ∙ ap (λ (n : ℕ). let marks : LogMarks = first_marks n opened.log.marks.number in marks) start ∙ ap (λ (n : ℕ). let marks : LogMarks = first_marks (start_of reading) n in marks) reads.number)
-            (may.runnable.log_tails ∙ ap first_tails start) log_tells);
-        data_part = data_begun reading script log_disk data_disk is data_seen opened.shape opened.pages opened.store reads.shape reads.pages may.runnable.data_shape may.runnable.data_live data_tells;
+            (log_begun reading script log_disk data_disk is log_seen opened.log (can.runnable.log_shape ∙ reads.shape) can.runnable.log_live
+            (can.runnable.log_marks ∙ ap (λ (n : ℕ). let marks : LogMarks = first_marks n opened.log.marks.number in marks) start ∙ ap (λ (n : ℕ). let marks : LogMarks = first_marks (start_of reading) n in marks) reads.number)
+            (can.runnable.log_tails ∙ ap first_tails start) log_tells);
+        data_part = data_begun reading script log_disk data_disk is data_seen opened.shape opened.pages opened.store reads.shape reads.pages can.runnable.data_shape can.runnable.data_live data_tells;
       }
 
   -- its parts and actors stand at the beginning of the run
-  pub begins : BeginsWith log_seen data_seen stands opened script log_only archive followers start
+  pub begins : BeginsOn log_seen data_seen stands opened script live log_only archive followers
+      (λ (b : Bool). with_others (map actor.User (users_with b)) opened.shape opened.start b archive
+      (length followers)) start
   begins = record {
     run = run;
     is_run = record {
@@ -298,11 +314,13 @@ module _ {L D R : Type 0} (log_seen : L → Seen) (data_seen : D → Seen) (stan
       first_log = refl;
       first_data = refl;
       start = place;
+      live_is = refl;
       log_only_is = refl;
       first_is = refl;
       last_reader = refl;
-      of_script = of_script opened.shape opened.pages opened.start script log_only archive (length followers) new.few;
-      its_pages = has_opened_pages setup (record { shape = opened.shape; pages = opened.pages; end = 0 }) may.runnable.limits may.runnable.its_pages (sym may.runnable.its_pages.count) refl (λ p there. refl);
+      of_script = of_script opened.shape opened.pages opened.start script (length users) log_only archive
+          (length followers) can.new.few;
+      its_pages = has_opened_pages setup (record { shape = opened.shape; pages = opened.pages; end = 0 }) can.runnable.limits can.runnable.its_pages (sym can.runnable.its_pages.count) refl (λ p there. refl);
     };
     at_start = record {
       words = words.by_name;
@@ -327,5 +345,6 @@ module _ {L D R : Type 0} (log_seen : L → Seen) (data_seen : D → Seen) (stan
     no_entries = owns.no_entries;
     room = owns.room;
     begun = λ reading reads. if_told (log_seen opened.log.dev).tells (data_seen opened.store.dev).tells (λ log_disk data_disk. IsStart reading script log_disk data_disk → HaveBegun log_seen data_seen run)
-        (λ log_disk data_disk log_tells data_tells is. begun_on reading log_disk data_disk reads log_tells data_tells is);
+        (λ log_disk data_disk log_tells data_tells is.
+        holds_opened reading log_disk data_disk reads log_tells data_tells is);
   }

@@ -18,7 +18,8 @@ use Rattle.model_script.specs.declared.script.ScriptLine.{ScriptLine}
 use Rattle.redo_useractor.specs.{program_lines}
 use Rattle.redo_drive.specs.declared.seating.TheConstants.{FIRST_FOLLOWER}
 use Rattle.redo_drive.specs.Setups.{followers_from, other_actors, page_actors, programs_of, readers_of, seated_actors, users_below}
-use Rattle.redo_drive.specs.Setups.{users_of}
+use Rattle.redo_drive.specs.LiveActors.{idle_users, live_actors}
+use Rattle.redo_drive.specs.Setups.{users_of, with_others}
 
 -- the sum for each number below n
 sum_below : (ℕ → ℕ) → ℕ → ℕ
@@ -114,20 +115,26 @@ readers_reserve : (start : ℕ) (archive : Bool) (followers : ℕ)
 readers_reserve start true followers = let rest = followers_reserve start FIRST_FOLLOWER followers in omega arith
 readers_reserve start false followers = followers_reserve start FIRST_FOLLOWER followers
 
--- what all actors may reserve
-pub actors_reserve : (shape : Shape) (script : List ScriptLine) (start : ℕ) (log_only archive : Bool) (followers : ℕ)
-    → AllByRecursion (LineFits shape) script
-    → sum_over_actors left_to_reserve (seated_actors shape script start log_only archive followers) ≡ length (stream_of (map (group_of shape.space) script))
-actors_reserve shape script start log_only archive followers fits =
-    let programs : ℕ → List Line = programs_of shape log_only script in
-    let users : List Actor = map actor.User (users_of shape log_only script) in
+-- behind the users no actor reserves anything
+others_reserve : (users : List Actor) (shape : Shape) (start : ℕ) (log_only archive : Bool) (followers : ℕ)
+    → sum_over_actors left_to_reserve (with_others users shape start log_only archive followers)
+    ≡ sum_over_actors left_to_reserve users
+others_reserve users shape start log_only archive followers =
     let others : List Actor = other_actors shape start log_only archive followers in
     let readers : List Actor = readers_of start archive followers in
     let parts = sum_append left_to_reserve (users ++ others) readers in
     let more = sum_append left_to_reserve users others in
     let none = pages_reserve shape start log_only archive followers in
-    let nothing = readers_reserve start archive followers in
-    let all = users_reserve (run_layout shape).blocks programs (MAX_USERS + 1) ∙ all_count shape log_only script fits in omega arith
+    let nothing = readers_reserve start archive followers in omega arith
+
+-- what all actors may reserve
+pub actors_reserve : (shape : Shape) (script : List ScriptLine) (start : ℕ) (log_only archive : Bool) (followers : ℕ)
+    → AllByRecursion (LineFits shape) script
+    → sum_over_actors left_to_reserve (seated_actors shape script start log_only archive followers) ≡ length (stream_of (map (group_of shape.space) script))
+actors_reserve shape script start log_only archive followers fits =
+    others_reserve (map actor.User (users_of shape log_only script)) shape start log_only archive followers
+    ∙ users_reserve (run_layout shape).blocks (programs_of shape log_only script) (MAX_USERS + 1)
+    ∙ all_count shape log_only script fits
 
 -- and the log has room for that
 pub room_for_all : (shape : Shape) (script : List ScriptLine) (start : ℕ) (log_only archive : Bool) (followers : ℕ)
@@ -137,3 +144,19 @@ room_for_all shape script start log_only archive followers fits room =
     let sum = actors_reserve shape script start log_only archive followers fits in
     let end : sn_of start + sum_over_actors left_to_reserve (seated_actors shape script start log_only archive followers) ≡ sn_of start + length (stream_of (map (group_of shape.space) script)) = omega arith in
     subst (λ (n : ℕ). lsn n < LSN_LIMIT) (sym end) (subst (λ (n : ℕ). n < LSN_LIMIT) (sym (lsn_is (sn_of start + length (stream_of (map (group_of shape.space) script))))) room)
+
+-- users that have no lines reserve nothing
+idle_reserve : (blocks n : ℕ) → sum_over_actors left_to_reserve (map actor.User (idle_users blocks n)) ≡ 0
+idle_reserve blocks zero = refl
+idle_reserve blocks (suc n) =
+    let last : List UserState = new_user (suc n) blocks [] ∷ [] in
+    let both = ap (sum_over_actors left_to_reserve) (map-append actor.User (idle_users blocks n) last) in
+    let parts = sum_append left_to_reserve (map actor.User (idle_users blocks n)) (map actor.User last) in
+    let before = idle_reserve blocks n in omega arith
+
+-- so a live run has room as it begins
+pub live_reserve : (shape : Shape) (users start : ℕ) (log_only archive : Bool) (followers : ℕ)
+    → sum_over_actors left_to_reserve (live_actors shape users start log_only archive followers) ≡ 0
+live_reserve shape users start log_only archive followers =
+    others_reserve (map actor.User (idle_users (run_layout shape).blocks users)) shape start log_only archive followers
+    ∙ idle_reserve (run_layout shape).blocks users

@@ -22,13 +22,13 @@ use Rattle.model_parts.proofs.Bytes.{group-bytes}
 use Rattle.model_page.specs.declared.content.Content.{Content}
 use Rattle.model_running.specs.{ArePageActors, AreSeated}
 use Rattle.model_script.specs.{group_of, IsScriptLine, LineFits}
-use Rattle.model_script.specs.declared.misfit.TheConstants.{MAX_USERS}
 use Rattle.model_script.specs.declared.script.ScriptLine.{ScriptLine}
-use Rattle.redo_drive.proofs.Seats.{HasSeat, ascend, at_either, has_seat, seated, user_at}
-use Rattle.redo_drive.proofs.UserLines.{few_modes, numbered, of_script, of_user}
+use Rattle.redo_drive.proofs.FirstUsers.{AreFirstUsers}
+use Rattle.redo_drive.proofs.Seats.{at_either, user_at}
+use Rattle.redo_drive.proofs.UserLines.{few_modes, of_script, of_user}
 use Rattle.redo_drive.specs.declared.seating.TheConstants.{FIRST_FOLLOWER}
 use Rattle.redo_drive.specs.Setups.{first_reader, followers_from, other_actors, page_actors, programs_of, readers_of}
-use Rattle.redo_drive.specs.Setups.{seated_actors, users_below, users_of}
+use Rattle.redo_drive.specs.Setups.{with_others}
 use Rattle.redo_drive.specs.StartWords.{seats_before, setup_of}
 use Rattle.model_log.specs.{run_layout}
 
@@ -36,14 +36,6 @@ use Rattle.model_log.specs.{run_layout}
 abbrev pub RunsWithPages : Bool → Actor → Type 0
 RunsWithPages log_only (actor.Checkpointer t) = log_only ≡ false
 RunsWithPages log_only _ = Unit {0}
-
--- the seat of the user of a number: as many users have lesser numbers
-abbrev pub seat_of_user : Shape → Bool → List ScriptLine → ℕ → ℕ
-seat_of_user shape log_only script user = length (users_below (run_layout shape).blocks (programs_of shape log_only script) user)
-
--- the writer's seat is the first after the users'
-abbrev pub writer_seat : Shape → Bool → List ScriptLine → ℕ
-writer_seat shape log_only script = length (users_of shape log_only script)
 
 -- the followers by their numbers
 readers_from : ℕ → ℕ → ℕ → List ReaderState
@@ -77,20 +69,18 @@ pub record IsNew (c : Setup) (seat_of : ℕ → ℕ) (writer seat : ℕ) (a : Ac
   pub start : StartActor c seat_of writer seat a
   pub with_pages : RunsWithPages c.log_only a
 
-module _ (shape : Shape) (pages : List Content) (start : ℕ) (script : List ScriptLine) (log_only archive : Bool) (followers : ℕ)
-    (few : FIRST_FOLLOWER + followers ≤ READERS) (lines : AllByRecursion IsScriptLine script)
-    (fits : AllByRecursion (LineFits shape) script) where
+module _ (shape : Shape) (pages : List Content) (start : ℕ) (script : List ScriptLine) (live log_only archive : Bool)
+    (followers : ℕ) (few : FIRST_FOLLOWER + followers ≤ READERS) (lines : AllByRecursion IsScriptLine script)
+    (fits : AllByRecursion (LineFits shape) script) (seat_of : ℕ → ℕ) (users : List UserState)
+    (firsts : AreFirstUsers live (run_layout shape).blocks (programs_of shape log_only script) seat_of users) where
   abbrev setup : Setup
-  setup = setup_of shape pages start script log_only archive followers
+  setup = setup_of shape pages start script (length users) log_only archive followers
 
   abbrev programs : ℕ → List Line
   programs = programs_of shape log_only script
 
   abbrev new_last : CheckpointerState
   new_last = new_checkpointer start (first_reader archive) (FIRST_FOLLOWER + followers)
-
-  abbrev users : List UserState
-  users = users_of shape log_only script
 
   -- a line of a user, as its program has it
   record IsProgramLine (line : Line) : Type 0 where
@@ -101,21 +91,21 @@ module _ (shape : Shape) (pages : List Content) (start : ℕ) (script : List Scr
 
   program_line : (user j : ℕ) → j < length (programs user) → IsProgramLine (line_at (programs user) j)
   program_line user j there =
-      let count = (of_script shape pages start script log_only archive followers few).count user in
+      let count = (of_script shape pages start script (length users) log_only archive followers few).count user in
       let one = line_below (lines_of_user user script) j (omega arith) in
       let fit : LineFits shape one.0 = (of_user (LineFits shape) script user j one.0 fits one.1).0 in
       let in_range : IsScriptLine one.0 = (of_user IsScriptLine script user j one.0 lines one.1).0 in
-      subst IsProgramLine (sym ((of_script shape pages start script log_only archive followers few).each user j one.0 one.1)) (record {
+      subst IsProgramLine (sym ((of_script shape pages start script (length users) log_only archive followers few).each
+      user j one.0 one.1)) (record {
         some_bytes = group_has_text (group_of shape.space one.0) fit.has_text;
         short = fit.short;
         mode = few_modes one.0 in_range;
         are_bytes = λ i l. group-bytes (group_of shape.space one.0) fit.has_text.each i 0 l;
       })
 
-  start_user : (u : UserState) → u ≡ new_user u.user (run_layout shape).blocks (programs u.user) → 0 < length (programs u.user) → StartUser setup u
-  start_user u is some_lines = record {
+  start_user : (u : UserState) → u ≡ new_user u.user (run_layout shape).blocks (programs u.user) → StartUser setup u
+  start_user u is = record {
     is = is;
-    some_lines = some_lines;
     sound = λ j there. (let line = program_line u.user j there in (line.some_bytes, line.short, line.mode));
     are_bytes = λ j i within. elim (dec_le (length (programs u.user)) j) [
       | yes past ↦ absurd (let none = ap (λ (z : Line). length z.bytes) (get_or_past (programs u.user) j (record { mode = 0; bytes = []; changes = [] }) past) in omega arith)
@@ -126,13 +116,13 @@ module _ (shape : Shape) (pages : List Content) (start : ℕ) (script : List Scr
   -- the run starts at the first data byte of a block, so that its sn and its lsn tell one another
   module _ (place : lsn setup.base ≡ start) where
     abbrev IsHere : ℕ → Actor → Type 0
-    IsHere seat a = IsNew setup (seat_of_user shape log_only script) (writer_seat shape log_only script) seat a
+    IsHere seat a = IsNew setup seat_of (length users) seat a
 
     user_starts : (seat : ℕ) (a : Actor) → get_elem? (map actor.User users) seat ≡ some a → IsHere seat a
     user_starts seat a at =
         let u = user_at users seat a at in
-        let own : HasSeat (run_layout shape).blocks programs (MAX_USERS + 1) seat u.0 = seated (run_layout shape).blocks programs (MAX_USERS + 1) seat u.0 u.2 in
-        subst (IsHere seat) u.1 (record { start = (own.before, start_user u.0 own.is own.some_lines); with_pages = tt })
+        let own = firsts.each seat u.0 u.2 in
+        subst (IsHere seat) u.1 (record { start = (own.0, start_user u.0 own.1); with_pages = tt })
 
     -- after the users, the writer and the flusher
     pages_start : (b : Bool) → b ≡ log_only → (i : ℕ) (a : Actor) → get_elem? (page_actors shape start b archive followers) i ≡ some a → IsHere (length users + (2 + i)) a
@@ -163,33 +153,36 @@ module _ (shape : Shape) (pages : List Content) (start : ℕ) (script : List Scr
 
     -- a reader with its number, in the seat that belongs to that
     reader_starts : (i number : ℕ) → first_reader archive + i ≡ number → number < FIRST_FOLLOWER + followers
-        → IsHere (seats_before shape script log_only + i) (actor.Reader (new_reader number start))
+        → IsHere (seats_before (length users) log_only + i) (actor.Reader (new_reader number start))
     reader_starts i number is below =
-        let there : seats_before shape script log_only + i ≡ setup.reader_at number =
-        ap (λ (n : ℕ). seats_before shape script log_only + n) (omega arith) in
+        let there : seats_before (length users) log_only + i ≡ setup.reader_at number =
+        ap (λ (n : ℕ). seats_before (length users) log_only + n) (omega arith) in
         record {
           start = (there, omega arith, omega arith, ap (new_reader number) (sym place));
           with_pages = tt;
         }
 
     readers_start : (b : Bool) → archive ≡ b → (i : ℕ) (a : Actor)
-        → get_elem? (readers_of start b followers) i ≡ some a → IsHere (seats_before shape script log_only + i) a
+        → get_elem? (readers_of start b followers) i ≡ some a → IsHere (seats_before (length users) log_only + i) a
     readers_start true is zero a at =
-        subst (IsHere (seats_before shape script log_only + 0)) (some-injective (actor.Reader (new_reader 0 start)) a at)
+        subst (IsHere (seats_before (length users) log_only + 0))
+        (some-injective (actor.Reader (new_reader 0 start)) a at)
         (reader_starts 0 0 (let e = ap first_reader is in omega arith) (omega arith))
     readers_start true is (suc i) a at =
         let r = follower_at start FIRST_FOLLOWER followers i a at in
         let below = r.0 in
-        subst (IsHere (seats_before shape script log_only + suc i)) r.1
+        subst (IsHere (seats_before (length users) log_only + suc i)) r.1
         (reader_starts (suc i) (FIRST_FOLLOWER + i) (let e = ap first_reader is in omega arith) (omega arith))
     readers_start false is i a at =
         let r = follower_at start FIRST_FOLLOWER followers i a at in
         let below = r.0 in
-        subst (IsHere (seats_before shape script log_only + i)) r.1
+        subst (IsHere (seats_before (length users) log_only + i)) r.1
         (reader_starts i (FIRST_FOLLOWER + i) (let e = ap first_reader is in omega arith) (omega arith))
 
     -- each actor is new, and in its seat
-    pub are_new : (seat : ℕ) (a : Actor) → get_elem? (seated_actors shape script start log_only archive followers) seat ≡ some a → IsHere seat a
+    pub are_new : (seat : ℕ) (a : Actor)
+        → get_elem? (with_others (map actor.User users) shape start log_only archive followers) seat ≡ some a
+        → IsHere seat a
     are_new seat a at = ⊎_elim
         (λ before. ⊎_elim (user_starts seat a)
         (λ z. subst (λ (n : ℕ). IsHere n a) (sym (z.1 ∙ ap (λ (n : ℕ). n + z.0) long)) (others_start z.0 a z.2))
@@ -233,8 +226,8 @@ module _ (shape : Shape) (pages : List Content) (start : ℕ) (script : List Scr
         ∷ actor.Checkpointer new_last ∷ l) all.are,
   )
 
-  -- the users that have lines are seated, and the other actors after them
-  pub are_seated : AreSeated setup (seated_actors shape script start log_only archive followers)
+  -- the users are seated, and the other actors after them
+  pub are_seated : AreSeated live setup (with_others (map actor.User users) shape start log_only archive followers)
   are_seated = record {
     users = users;
     writer = new_writer (run_layout shape).blocks start;
@@ -243,13 +236,9 @@ module _ (shape : Shape) (pages : List Content) (start : ℕ) (script : List Scr
     are = append_assoc (map actor.User users) (other_actors shape start log_only archive followers)
         (readers_of start archive followers);
     page_actors = are_page_actors log_only;
-    ascending = ascend (run_layout shape).blocks programs (MAX_USERS + 1);
-    have_lines = λ i u at. (seated (run_layout shape).blocks programs (MAX_USERS + 1) i u at).some_lines;
-    all = λ user some_lines.
-        (let count = (of_script shape pages start script log_only archive followers few).count user in
-        let range = numbered shape script lines fits user (omega arith) in
-        let to = range.1 in
-        (seat_of_user shape log_only script user, new_user user (run_layout shape).blocks (programs user), has_seat (run_layout shape).blocks programs (MAX_USERS + 1) user (omega arith) some_lines, refl));
+    ascending = firsts.ascending;
+    have_lines = firsts.have_lines;
+    all = firsts.all;
     closer = refl;
     cleaner = refl;
     checkpointer = refl;

@@ -116,7 +116,8 @@ module _ {L D : Type 0} {archive : Bool} (log_seen : L → Seen) (data_seen : D 
   half = runs.running.both.logged
 
   -- what no group of the log has, no group of a user has
-  none_of_user : (h : core.Entry → ℕ) → ((i : ℕ) (e : core.Entry) → get_elem? ghosts.log i ≡ some e → h e ≡ 0) → (seat : ℕ) (u : UserState) → get_elem? actors seat ≡ some (model.User u) → (k : ℕ) → k < length u.starts
+  pub none_of_user : (h : core.Entry → ℕ) → ((i : ℕ) (e : core.Entry) → get_elem? ghosts.log i ≡ some e → h e ≡ 0)
+      → (seat : ℕ) (u : UserState) → get_elem? actors seat ≡ some (model.User u) → (k : ℕ) → k < length u.starts
       → h (entry u.user k (slice_index u.starts k) (line_at u.lines k)) ≡ 0
   none_of_user h none seat u at k l =
       let here : h (entry u.user (0 + k) (slice_index u.starts k) (line_at u.lines (0 + k))) ≤ sum_of h (entries (model.User u)) = group_at h u.user u.lines 0 u.starts k l in

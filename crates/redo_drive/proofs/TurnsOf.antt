@@ -59,6 +59,7 @@ some_run parts = record {
     last_reader = 0;
     reader_at = λ number. number;
   };
+  live = false;
   shape = parts.store.shape;
   first_log = parts.log;
   first_data = parts.store;

@@ -81,10 +81,10 @@ no_program shape script lines fits log_only user outside = elim (dec_le 1 (lengt
 ]
 
 -- the users' programs are those of the script
-pub of_script : (shape : Shape) (pages : List Content) (start : ℕ) (script : List ScriptLine) (log_only archive : Bool)
-    (followers : ℕ) → FIRST_FOLLOWER + followers ≤ READERS
-    → IsOfScript (setup_of shape pages start script log_only archive followers) script shape
-of_script shape pages start script log_only archive followers few = record {
+pub of_script : (shape : Shape) (pages : List Content) (start : ℕ) (script : List ScriptLine) (users : ℕ)
+    (log_only archive : Bool) (followers : ℕ) → FIRST_FOLLOWER + followers ≤ READERS
+    → IsOfScript (setup_of shape pages start script users log_only archive followers) script shape
+of_script shape pages start script users log_only archive followers few = record {
   count = λ user. length-map (map spelled (lines_of_user user script)) program ∙ length-map (lines_of_user user script) spelled;
   readers = in_order archive;
   few_readers = few;

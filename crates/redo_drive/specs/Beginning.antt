@@ -14,13 +14,14 @@ use Rattle.redo_drive.specs.declared.parts.Parts.{Parts}
 use Rattle.redo_drive.specs.declared.seating.TheConstants.{FIRST_FOLLOWER}
 use Rattle.redo_store.specs.declared.opened.Opened.{Opened}
 
--- The run is that of this script on this store, with an archiver or without, and with so many followers: with its sizes, its
--- pages and both its parts, from its start on.
-pub record IsRunWith {L D : Type 0} (opened : Opened L D) (script : List ScriptLine) (log_only archive : Bool) (followers : ℕ) (run : RunOf L D) : Type 0 where
+-- The run is that of this script on this store, a live one or not, with an archiver or without, and with so many followers:
+-- with its sizes, its pages and both its parts, from its start on.
+pub record IsRunWith {L D : Type 0} (opened : Opened L D) (script : List ScriptLine) (live log_only archive : Bool) (followers : ℕ) (run : RunOf L D) : Type 0 where
   pub shape : run.shape ≡ opened.shape
   pub first_log : run.first_log ≡ opened.log
   pub first_data : run.first_data ≡ opened.store
   pub start : lsn run.setup.base ≡ opened.start
+  pub live_is : run.live ≡ live
   pub log_only_is : run.setup.log_only ≡ log_only
   pub first_is : run.setup.first_reader ≡ first_reader archive
   pub last_reader : run.setup.last_reader ≡ FIRST_FOLLOWER + followers
@@ -32,12 +33,18 @@ pub record HaveBegun {L D : Type 0} (log_seen : L → Seen) (data_seen : D → S
   pub log : log_part.HasBegun log_seen (lsn run.setup.base) run.first_log
   pub data_part : data_part.HasBegun data_seen run.setup.opened run.first_data
 
--- NOTHING IS DONE YET: the words are those of the run's start, the actors of the script are new and in their seats, both parts
--- are those that were opened, and no page is listed.
-pub record StandsWith {L D : Type 0} (opened : Opened L D) (script : List ScriptLine) (archive : Bool) (followers : ℕ)
-    (run : RunOf L D) (parts : Parts L D) (actors : List Actor) : Type 0 where
+-- NOTHING IS DONE YET: the words are those of the run's start, the actors are those with which it begins, both parts are those
+-- that were opened, and no page is listed.
+pub record StandsOn {L D : Type 0} (opened : Opened L D) (firsts : List Actor) (run : RunOf L D) (parts : Parts L D)
+    (actors : List Actor) : Type 0 where
   pub words : AreStartWords parts.words.words run.setup
-  pub are_new : actors ≡ seated_actors opened.shape script opened.start run.setup.log_only archive followers
+  pub are_new : actors ≡ firsts
   pub log : parts.log ≡ opened.log
   pub data_part : parts.store ≡ opened.store
   pub none_listed : (i : ℕ) → ◌≡◌ {A = List Listed} (lists_of parts.lists i) []
+
+-- the same of the run of a script, whose actors are new and in their seats
+abbrev pub StandsWith : {L D : Type 0} → Opened L D → (script : List ScriptLine) → (archive : Bool) → (followers : ℕ) → RunOf L D
+    → Parts L D → List Actor → Type 0
+StandsWith opened script archive followers run parts actors =
+    StandsOn opened (seated_actors opened.shape script opened.start run.setup.log_only archive followers) run parts actors

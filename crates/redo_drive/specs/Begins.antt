@@ -1,18 +1,20 @@
 -- A run at its beginning, with all that the invariant starts from.
-use Rattle.std.specs.Prelude.{Bool, IfSome, List, [], false, length, vec_capacity, ℕ, ◌≡◌, ◌≤◌}
-use Rattle.model_core.specs.{flat, Given, Listed, SharedWords}
+use Rattle.std.specs.Prelude.{Bool, IfSome, List, [], false, length, true, vec_capacity, ℕ, ◌≡◌, ◌≤◌}
+use Rattle.model_core.specs.{Actor, flat, Given, Listed, SharedWords}
 use Rattle.model_theorem.specs.{IsStart}
 use Rattle.model_running.specs.StartStore.{StartStore}
 use Rattle.model_script.specs.declared.script.ScriptLine.{ScriptLine}
 use Rattle.model_store.specs.Reading.{Reading}
 use Rattle.redo_disk.specs.Seen.{Seen}
-use Rattle.redo_drive.specs.Beginning.{HaveBegun, IsRunWith, StandsWith}
+use Rattle.redo_drive.specs.Beginning.{HaveBegun, IsRunWith, StandsOn}
 use Rattle.redo_drive.specs.FirstWords.{first_words}
 use Rattle.redo_drive.specs.Startable.{HasReading}
 use Rattle.redo_drive.specs.Lists.{lists_of}
+use Rattle.redo_drive.specs.LiveActors.{live_actors}
 use Rattle.redo_drive.specs.Making.{EndsWithReaders}
 use Rattle.redo_drive.specs.Playing.{RunOf, run_data_side, run_log_side}
 use Rattle.redo_drive.specs.Running.{RunsFromWith}
+use Rattle.redo_drive.specs.Setups.{seated_actors}
 use Rattle.redo_drive.specs.Views.{views_of}
 use Rattle.redo_drive.specs.declared.making.Beginning.{Beginning}
 use Rattle.redo_follow.specs.Following.{Following}
@@ -28,14 +30,15 @@ pub record IsAtStart {L D R : Type 0} (log_seen : L → Seen) (data_seen : D →
       start.parts.log start.parts.store seat_of writer (views_of start.actors.items)
   pub none_listed : (i : ℕ) → ◌≡◌ {A = List Listed} (lists_of start.parts.lists i) []
 
--- PARTS AND ACTORS STAND AT THE BEGINNING of the run of this script on this store, with an archiver or without, and with these
--- followers.
-pub record BeginsWith {L D R : Type 0} (log_seen : L → Seen) (data_seen : D → Seen) (stands_for : R → List Given → Type 0) (opened : Opened L D)
-    (script : List ScriptLine) (log_only archive : Bool) (new_followers : List (Following R)) (start : Beginning L D R) : Type 0 where
+-- PARTS AND ACTORS STAND AT THE BEGINNING of the run of this script on this store, a live one or not, with an archiver or
+-- without, and with these followers. With the log alone or with the pages, these are the actors with which it begins.
+pub record BeginsOn {L D R : Type 0} (log_seen : L → Seen) (data_seen : D → Seen) (stands_for : R → List Given → Type 0) (opened : Opened L D)
+    (script : List ScriptLine) (live log_only archive : Bool) (new_followers : List (Following R)) (firsts : (log_only : Bool) → List Actor)
+    (start : Beginning L D R) : Type 0 where
   pub run : RunOf L D
-  pub is_run : IsRunWith opened script log_only archive (length new_followers) run
+  pub is_run : IsRunWith opened script live log_only archive (length new_followers) run
   pub at_start : IsAtStart log_seen data_seen run start
-  pub stands : StandsWith opened script archive (length new_followers) run start.parts (views_of start.actors.items)
+  pub stands : StandsOn opened (firsts run.setup.log_only) run start.parts (views_of start.actors.items)
   pub from : RunsFromWith log_seen data_seen stands_for run archive start.actors.items start.parts start.actors.items
   pub followers : EndsWithReaders opened.start archive start.actors.items new_followers
   pub words : start.parts.words.words ≡ flat (first_words opened.shape.page_size opened.start opened.pages)
@@ -48,6 +51,20 @@ pub record BeginsWith {L D R : Type 0} (log_seen : L → Seen) (data_seen : D �
   pub begun : (reading : Reading) → HasReading reading opened
       → IfSome (log_seen opened.log.dev).tells (λ log_disk. IfSome (data_seen opened.store.dev).tells (λ data_disk.
       IsStart reading script log_disk data_disk → HaveBegun log_seen data_seen run))
+
+-- THE RUN OF A SCRIPT BEGINS, whose users that have lines come first.
+abbrev pub BeginsWith : {L D R : Type 0} → (L → Seen) → (D → Seen) → (R → List Given → Type 0) → Opened L D → List ScriptLine
+    → (log_only archive : Bool) → List (Following R) → Beginning L D R → Type 0
+BeginsWith log_seen data_seen stands_for opened script log_only archive followers start =
+    BeginsOn log_seen data_seen stands_for opened script false log_only archive followers
+    (λ (b : Bool). seated_actors opened.shape script opened.start b archive (length followers)) start
+
+-- A LIVE RUN BEGINS, whose users, so many, have no lines yet.
+abbrev pub BeginsLive : {L D R : Type 0} → (L → Seen) → (D → Seen) → (R → List Given → Type 0) → Opened L D → (users : ℕ)
+    → (log_only : Bool) → Beginning L D R → Type 0
+BeginsLive log_seen data_seen stands_for opened users log_only start =
+    BeginsOn log_seen data_seen stands_for opened [] true log_only false []
+    (λ (b : Bool). live_actors opened.shape users opened.start b false 0) start
 
 -- the same where nothing is archived
 abbrev pub BeginsRun : {L D R : Type 0} → (L → Seen) → (D → Seen) → (R → List Given → Type 0) → Opened L D → List ScriptLine

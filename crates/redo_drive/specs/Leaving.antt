@@ -1,5 +1,5 @@
 -- What a run leaves, however its Ops were interleaved: from this the closed run follows, by turns and in threads alike.
-use Rattle.std.specs.Prelude.{Bool, IfSome, List, cond, slice_index, ℕ, ◌≡◌}
+use Rattle.std.specs.Prelude.{Bool, IfSome, List, cond, false, slice_index, ℕ, ◌≡◌}
 use Rattle.model_core.specs.{Given, HasLost}
 use Rattle.model_core.specs.Layout.{failed_at}
 use Rattle.model_running.specs.{history_of, marks_in, word_marks}
@@ -20,13 +20,13 @@ use Rattle.redo_drive.specs.declared.parts.Parts.{Parts}
 use Rattle.redo_drive.specs.declared.closed.Closed.{Closed}
 use Rattle.redo_store.specs.declared.opened.Opened.{Opened}
 
--- The run of the script on the opened store, with an archiver or without, and with so many followers, began with the first of
--- these actors and came to the others, and the closed store is what they and its parts tell.
-pub record LeavesWith {L D R : Type 0} (log_seen : L → Seen) (log_gives : L → Call → L → Type 0) (data_seen : D → Seen) (data_gives : D → Call → D → Type 0)
-    (stands : R → List Given → Type 0) (opened : Opened L D) (script : List ScriptLine) (log_only archive : Bool)
+-- The run of the script on the opened store, a live one or not, with an archiver or without, and with so many followers, began
+-- with the first of these actors and came to the others, and the closed store is what they and its parts tell.
+pub record LeavesAs {L D R : Type 0} (log_seen : L → Seen) (log_gives : L → Call → L → Type 0) (data_seen : D → Seen) (data_gives : D → Call → D → Type 0)
+    (stands : R → List Given → Type 0) (opened : Opened L D) (script : List ScriptLine) (live log_only archive : Bool)
     (followers : ℕ) (starts actors : List (Actor R)) (closed : Closed L D) : Type 0 where
   pub run : RunOf L D
-  pub is_run : IsRunWith opened script log_only archive followers run
+  pub is_run : IsRunWith opened script live log_only archive followers run
   pub begun : (reading : Reading) → HasReading reading opened
       → IfSome (log_seen opened.log.dev).tells (λ log_disk. IfSome (data_seen opened.store.dev).tells (λ data_disk.
       IsStart reading script log_disk data_disk → HaveBegun log_seen data_seen run))
@@ -42,3 +42,11 @@ pub record LeavesWith {L D R : Type 0} (log_seen : L → Seen) (log_gives : L �
   pub history : closed.history ≡ history_of from.runs.running.log_ghost.answered (word_marks from.runs.running.shared) from.runs.running.log_ghost.log
   -- an archiver that has lost its archive did so by the error that the append has met
   pub lost : cond archive ((code : ℕ) → HasLost (views_of actors) code → code ≡ append_code closed.lost) (Unit {0})
+
+-- and so a run that was told its script as it began
+abbrev pub LeavesWith : {L D R : Type 0} → (L → Seen) → (L → Call → L → Type 0) → (D → Seen) → (D → Call → D → Type 0)
+    → (R → List Given → Type 0) → Opened L D → List ScriptLine → (log_only archive : Bool) → (followers : ℕ)
+    → (starts actors : List (Actor R)) → Closed L D → Type 0
+LeavesWith log_seen log_gives data_seen data_gives stands opened script log_only archive followers starts actors closed =
+    LeavesAs log_seen log_gives data_seen data_gives stands opened script false log_only archive followers starts actors
+    closed

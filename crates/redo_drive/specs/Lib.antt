@@ -13,6 +13,7 @@ pub mod Followed
 pub mod History
 pub mod Leaving
 pub mod Lists
+pub mod LiveActors
 pub mod LogPartSide
 pub mod Making
 pub mod Playing

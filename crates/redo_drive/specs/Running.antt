@@ -28,7 +28,7 @@ module _ {L D : Type 0} (log_seen : L → Seen) (data_seen : D → Seen) (run : 
     pub its_slots : run.shape.slots ≡ run.setup.slots
     pub list_pages : parts.lists.pages ≡ run.setup.pages
     pub running : IsRunning (run_log_side log_seen data_seen run) (run_data_side log_seen data_seen run) run.setup (core_of log_seen data_seen run parts actors)
-    pub seated : AreSeated run.setup actors
+    pub seated : AreSeated run.live run.setup actors
 
 -- they are on some run
 pub record AreOnRun {L D : Type 0} (log_seen : L → Seen) (data_seen : D → Seen) (parts : Parts L D) (actors : List model.Actor) : Type 0 where

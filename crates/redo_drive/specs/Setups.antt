@@ -65,10 +65,15 @@ abbrev pub seated_before : Shape → List ScriptLine → (start : ℕ) → (log_
 seated_before shape script start log_only archive followers =
     map actor.User (users_of shape log_only script) ++ other_actors shape start log_only archive followers
 
--- the actors of the run in their seats, with nothing done: the readers of the log come last
+-- all actors in their seats, with nothing done: behind these users the others, and the readers of the log come last
+abbrev pub with_others : (users : List Actor) → Shape → (start : ℕ) → (log_only archive : Bool) → (followers : ℕ) → List Actor
+with_others users shape start log_only archive followers =
+    (users ++ other_actors shape start log_only archive followers) ++ readers_of start archive followers
+
+-- the actors of the run of a script in their seats, with nothing done
 abbrev pub seated_actors : Shape → List ScriptLine → (start : ℕ) → (log_only archive : Bool) → (followers : ℕ) → List Actor
 seated_actors shape script start log_only archive followers =
-    seated_before shape script start log_only archive followers ++ readers_of start archive followers
+    with_others (map actor.User (users_of shape log_only script)) shape start log_only archive followers
 
 -- the same where nothing is archived
 abbrev pub start_actors : Shape → List ScriptLine → (start : ℕ) → (log_only : Bool) → (followers : ℕ) → List Actor

@@ -1,5 +1,5 @@
 -- A run, and a running store of it as the definition of a turn sees it.
-use Rattle.std.specs.Prelude.{List}
+use Rattle.std.specs.Prelude.{Bool, List}
 use Rattle.model_base.specs.declared.shape.Shape.{Shape}
 use Rattle.model_core.specs.Actors as model
 use Rattle.model_core.specs.{Core, lsn}
@@ -14,9 +14,11 @@ use Rattle.redo_drive.specs.declared.parts.Parts.{Parts}
 use Rattle.redo_logdev.specs.Part as log
 use Rattle.redo_store.specs.Part as store
 
--- a run: what never changes in it, its store's shape, and both parts as it began
+-- a run: its setup, whether it is a live one, so that lines are handed in while it goes on, its store's shape, and both parts
+-- as it began
 pub record RunOf (L D : Type 0) : Type 0 where
   pub setup : Setup
+  pub live : Bool
   pub shape : Shape
   pub first_log : log.Part L
   pub first_data : store.Part D

@@ -12,7 +12,7 @@ use Rattle.model_page.specs.declared.content.Content.{Content}
 use Rattle.model_base.specs.declared.shape.Shape.{Shape}
 use Rattle.model_script.specs.declared.script.ScriptLine.{ScriptLine}
 use Rattle.redo_drive.specs.FirstWords.{first_places, page_cells}
-use Rattle.redo_drive.specs.Setups.{first_reader, programs_of, users_of}
+use Rattle.redo_drive.specs.Setups.{first_reader, programs_of}
 use Rattle.redo_drive.specs.declared.seating.TheConstants.{FIRST_FOLLOWER}
 use Rattle.redo_words.specs.Plain.{Plain}
 
@@ -71,16 +71,16 @@ with_frame page frame m = with_page_words m page (record (page_words_at m.page_w
 abbrev pub IsBlankFrame : ℕ → SharedWords → Type 0
 IsBlankFrame page m = (i : ℕ) → slice_index (page_words_at m.page_words page).frame i ≡ 0
 
--- how many actors have their seats before the readers of the log: the writer, the flusher, and those of the pages, behind
--- the users
-abbrev pub seats_before : Shape → List ScriptLine → (log_only : Bool) → ℕ
-seats_before shape script log_only = length (users_of shape log_only script) + (if log_only then 2 else 5)
+-- how many actors have their seats before the readers of the log: the writer, the flusher, and those of the pages, behind so
+-- many users
+abbrev pub seats_before : (users : ℕ) → (log_only : Bool) → ℕ
+seats_before users log_only = users + (if log_only then 2 else 5)
 
--- The run of a script on these pages of a store, with the log alone or with the pages, with an archiver or without, and with
--- so many followers, which starts at this lsn. The closer, the cleaner and the checkpointer have their seats after the users,
--- the writer and the flusher, and the readers of the log theirs at the end.
-abbrev pub setup_of : Shape → List Content → (start : ℕ) → List ScriptLine → (log_only archive : Bool) → (followers : ℕ) → Setup
-setup_of shape pages start script log_only archive followers = record {
+-- The run of a script on these pages of a store, with so many users, with the log alone or with the pages, with an archiver or
+-- without, and with so many followers, which starts at this lsn. The closer, the cleaner and the checkpointer have their seats
+-- after the users, the writer and the flusher, and the readers of the log theirs at the end.
+abbrev pub setup_of : Shape → List Content → (start : ℕ) → List ScriptLine → (users : ℕ) → (log_only archive : Bool) → (followers : ℕ) → Setup
+setup_of shape pages start script users log_only archive followers = record {
   base = sn_of start;
   blocks = (run_layout shape).blocks;
   pages = shape.pages;
@@ -89,10 +89,10 @@ setup_of shape pages start script log_only archive followers = record {
   log_only = log_only;
   script = programs_of shape log_only script;
   opened = opened_page shape pages;
-  closer = length (users_of shape log_only script) + 2;
-  cleaner = length (users_of shape log_only script) + 3;
-  checkpointer = length (users_of shape log_only script) + 4;
+  closer = users + 2;
+  cleaner = users + 3;
+  checkpointer = users + 4;
   first_reader = first_reader archive;
   last_reader = FIRST_FOLLOWER + followers;
-  reader_at = λ number. seats_before shape script log_only + (number - first_reader archive);
+  reader_at = λ number. seats_before users log_only + (number - first_reader archive);
 }

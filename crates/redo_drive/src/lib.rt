@@ -12,11 +12,14 @@ mod device;
 mod drive;
 mod history;
 mod lists;
+mod live;
 mod log_laws;
 mod making;
+mod memory;
 mod parts;
 mod seating;
 mod start_words;
+mod users;
 
 pub use actor::Actor;
 pub use calling::{call_batch, call_checkpoint, call_read, call_sync, call_write};
@@ -26,6 +29,7 @@ pub use device::{Device, answer_of};
 pub use drive::{Driven, RunEnd};
 pub use history::history_of;
 pub use lists::FlushLists;
+pub use live::begin_live;
 pub use log_laws::{
     log_half_has_watermarks, log_part_keeps_its_shape, log_part_meets_laws, log_part_tells,
 };

@@ -1,80 +1,49 @@
 // A run as it begins.
-ghost use Rattle.std.specs.Prelude.{◌≡◌, ◌≤◌, ◌<◌, ◌+◌, ◌^◌, IfErr, IfOk};
-ghost use Rattle.std.specs.List.{AllByRecursion};
-ghost use Rattle.model_base.specs.{IsWithinLimits};
-ghost use Rattle.model_base.specs.declared.limits.TheConstants.{START_LSN};
-ghost use Rattle.model_log.specs.{IsAtDataStart};
-ghost use Rattle.model_log.specs.declared.layout.TheConstants.{BLOCK_HEADER};
-ghost use Rattle.model_script.specs.{IsScriptLine, LineFits};
-ghost use Rattle.redo_apply.specs.{ArePagesOf};
+ghost use Rattle.std.specs.Prelude.{◌≡◌, IfErr, IfOk, length};
 ghost use Rattle.redo_drive.specs.Startable.{AreNewFollowers, MayBegin};
 ghost use Rattle.redo_drive.specs.Begins.{BeginsRun, BeginsWith};
-ghost use Rattle.redo_drive.specs.Making.{IsOwnOf};
+ghost use Rattle.redo_drive.specs.Making.{BeginsSo, IsOwnOf};
+ghost use Rattle.redo_drive.specs.Setups.{seated_actors};
 
 use crate::actor::Actor;
-use crate::lists::FlushLists;
+use crate::memory::{Own, make_own};
 use crate::parts::Parts;
-use crate::seating::seat_actors;
-use crate::start_words::start_words;
-use model_base::Shape;
+use crate::users::seat_users;
 use model_report::Entry;
 use model_script::Script;
-use redo_apply::Pages;
 use redo_disk::Sectors;
 use redo_follow::{Follower, Receiver};
 use redo_lsn::NoMemory;
 use redo_store::Opened;
-use redo_words::PlainWords;
 use std::alloc::Global;
 
-/// All that a run has beside its devices.
-#[derive(Drop)]
-struct Own<R: Receiver> {
-    words: PlainWords,
-    lists: FlushLists,
-    actors: Vec<Actor<R>>,
-    entries: Vec<Entry>,
-}
-
-/// Takes all the memory of a run.
-fn make_own<R: Receiver + Drop>(
+/// Takes all the memory of the run of a script.
+fn make_own_of<L: Sectors, D: Sectors, R: Receiver + Drop>(
     alloc: Global,
-    shape: &Shape,
-    pages: &Pages,
+    opened: &Opened<L, D>,
     script: &Script,
-    start: u64,
     log_only: bool,
     archive: bool,
     followers: Vec<Follower<R>>,
 ) -> Result<Own<R>, NoMemory>
-    requires limits { IsWithinLimits shape.now }
-    requires its_pages { ArePagesOf shape.now pages.now }
-    requires place { IsAtDataStart start }
-    requires first { START_LSN + BLOCK_HEADER ≤ start }
-    requires small { start < 2 ^ 61 }
-    requires lines { AllByRecursion IsScriptLine script.now }
-    requires fits { AllByRecursion (LineFits shape.now) script.now }
-    requires new { AreNewFollowers start followers.items }
-    ensures { IfOk result (IsOwnOf shape.now pages.now script.now start log_only archive followers.items) }
+    requires may { MayBegin opened.now script.now log_only }
+    requires new { AreNewFollowers opened.now.start followers.items }
+    ensures { IfOk result (IsOwnOf opened.now.shape opened.now.pages opened.now.start (seated_actors opened.now.shape script.now opened.now.start log_only archive (length followers.items)) archive followers.items (length script.now)) }
 {
-    let words = start_words(alloc, shape, pages, start)?;
-    let lists = FlushLists::new(alloc, shape.pages)?;
-    let actors = seat_actors(
+    let count = followers.len() as u32;
+    let lines = script.0.as_slice();
+    let users = seat_users(alloc, lines, &opened.shape, log_only, count)?;
+    make_own(
         alloc,
-        script.0.as_slice(),
-        shape,
-        start,
+        &opened.shape,
+        &opened.pages,
+        opened.start,
+        users,
         log_only,
         archive,
         followers,
-    )?;
-    let entries = Vec::with_capacity(alloc, script.0.len())?;
-    Ok(Own {
-        words,
-        lists,
-        actors,
-        entries,
-    })
+        lines.len(),
+    )
 }
 
 /// A run as it begins: what its actors share, the actors in their seats, and room for an entry of each line. The users that
@@ -85,6 +54,39 @@ pub struct Beginning<L: Sectors, D: Sectors, R: Receiver> {
     pub parts: Parts<L, D>,
     pub actors: Vec<Actor<R>>,
     pub entries: Vec<Entry>,
+}
+
+/// The run as it begins with that, or both devices as they were, where there was no memory for it.
+pub fn begin_on<L: Sectors, D: Sectors, R: Receiver + Drop>(
+    opened: Opened<L, D>,
+    own: Result<Own<R>, NoMemory>,
+) -> Result<Beginning<L, D, R>, (NoMemory, L, D)>
+    ensures err { IfErr result (λ error. (error.1 ≡ opened.log.dev) × (error.2 ≡ opened.store.dev)) }
+    ensures so { IfOk result (BeginsSo opened own) }
+{
+    let Opened { log, store, .. } = opened;
+    match own {
+        Err(_) => Err((NoMemory, log.into_dev(), store.into_dev())),
+        Ok(own) => {
+            let Own {
+                words,
+                lists,
+                actors,
+                entries,
+            } = own;
+            let parts = Parts {
+                words,
+                log,
+                store,
+                lists,
+            };
+            Ok(Beginning {
+                parts,
+                actors,
+                entries,
+            })
+        }
+    }
 }
 
 /// The run of a script as it begins on an opened store, with the log alone or with the pages, and with these followers. It takes
@@ -118,35 +120,6 @@ pub fn begin_run_with<L: Sectors, D: Sectors, R: Receiver + Drop>(
     ensures err { IfErr result (λ error. (error.1 ≡ opened.log.dev) × (error.2 ≡ opened.store.dev)) }
     ensures begins { IfOk result (BeginsWith L.seen D.seen R.stands_for opened script.now log_only archive followers.items) }
 {
-    let Opened {
-        shape,
-        start,
-        pages,
-        log,
-        store,
-    } = opened;
-    match make_own(
-        alloc, &shape, &pages, script, start, log_only, archive, followers,
-    ) {
-        Err(_) => Err((NoMemory, log.into_dev(), store.into_dev())),
-        Ok(own) => {
-            let Own {
-                words,
-                lists,
-                actors,
-                entries,
-            } = own;
-            let parts = Parts {
-                words,
-                log,
-                store,
-                lists,
-            };
-            Ok(Beginning {
-                parts,
-                actors,
-                entries,
-            })
-        }
-    }
+    let own = make_own_of(alloc, &opened, script, log_only, archive, followers);
+    begin_on(opened, own)
 }

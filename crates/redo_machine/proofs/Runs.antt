@@ -77,7 +77,7 @@ module _ {L D : Type 0} (log_seen : L → Seen) (log_gives : L → Call → L �
     pub entries : now.entries ≡ first.entries
 
 -- there is an actor
-some_actor : {R : Type 0} (c : Setup) (actors : List (Actor R)) → AreSeated c (views_of actors) → 0 < length actors
+some_actor : {R : Type 0} {live : Bool} (c : Setup) (actors : List (Actor R)) → AreSeated live c (views_of actors) → 0 < length actors
 some_actor c actors S =
     let long : length (views_of actors) ≡ length (map model.User S.users) + (2 + length S.others) = ap length S.are ∙ length-append (map model.User S.users) (model.Writer S.writer ∷ model.Flusher S.flusher ∷ S.others) ∙ omega arith in
     let same = length_views actors in

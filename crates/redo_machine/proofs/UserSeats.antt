@@ -1,5 +1,5 @@
 -- The users have their seats in the order of their numbers.
-use Rattle.std.proofs.Common.{List, [], ap, arith, refl, suc, sym, zero, ℕ, ◌<◌, ◌∙◌, ◌∷◌, ◌≡◌, ◌≤◌}
+use Rattle.std.proofs.Common.{Bool, List, [], ap, arith, refl, suc, sym, zero, ℕ, ◌<◌, ◌∙◌, ◌∷◌, ◌≡◌, ◌≤◌}
 use native.Mathlib.Decide.{dec_le}
 use lib.ListN.{get_elem?}
 use Rattle.model_core.specs.{Actor, UserState}
@@ -36,7 +36,7 @@ higher_seat (x ∷ xs) ascend zero (suc j) u v l at also =
     omega arith
 higher_seat (x ∷ xs) ascend (suc i) (suc j) u v l at also = higher_seat xs (λ k a b here next. ascend (suc k) a b here next) i j u v (omega arith) at also
 
-module _ (c : Setup) (actors : List Actor) (seated : AreSeated c actors) where
+module _ {live : Bool} (c : Setup) (actors : List Actor) (seated : AreSeated live c actors) where
   -- the first user that hasn't ended has the least number of all that haven't
   pub first_is_least : (user : ℕ) → IsFirstOpen actors user → (j : ℕ) (u : UserState) → get_elem? actors j ≡ maybe.some (actor.User u) → u.user < user → HasEnded u
   first_is_least user first j u at less = elim (dec_le first.seat j) [

@@ -35,8 +35,10 @@ impl Model for Record {
     ghost also_owns = { λ _. ftrue };
 }
 
-// It owns nothing, so it may go to another thread.
+// It owns nothing, so it may go to another thread, and threads may share it.
 unsafe impl Send for Record {}
+
+unsafe impl Sync for Record {}
 
 impl Record {
     pub(crate) fn new() -> Record

@@ -1,5 +1,5 @@
 -- Which users haven't ended, among all actors.
-use Rattle.std.proofs.Common.{List, [], ap, map, refl, subst, suc, sym, zero, ℕ, ◌++◌, ◌∙◌, ◌∷◌, ◌≡◌}
+use Rattle.std.proofs.Common.{Bool, List, [], ap, map, refl, subst, suc, sym, zero, ℕ, ◌++◌, ◌∙◌, ◌∷◌, ◌≡◌}
 use lib.ListN.{get_elem?}
 use mathlib.Core.Option.{some, some-injective, some-ne-none}
 use Rattle.model_core.specs.{Actor, UserState, WriterState}
@@ -74,8 +74,8 @@ in_users [] seat u at = absurd (some-ne-none u (sym at))
 in_users (x ∷ xs) zero u at = (x, refl, some-injective x.user u at)
 in_users (x ∷ xs) (suc seat) u at = in_users xs seat u at
 
-module _ (c : Setup) (users : List OwnUser) (k : LogWork) (others : List Actor)
-    (seated : AreSeated c (all_actors users k others)) where
+module _ {live : Bool} (c : Setup) (users : List OwnUser) (k : LogWork) (others : List Actor)
+    (seated : AreSeated live c (all_actors users k others)) where
   is_in : (seat : ℕ) (u : UserState) → get_elem? (all_actors users k others) seat ≡ some (actor.User u)
       → IsIn users seat u
   is_in seat u at = in_users users seat u

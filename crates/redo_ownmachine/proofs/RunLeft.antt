@@ -256,7 +256,7 @@ module _ {L D A R : Type 0} {arch_gives : A → Call → A → Type 0} (log_seen
 
   pub owes : MayBegin opened script turns.log_only → Owes log_seen log_gives data_seen data_gives opened script driven
   owes may = left_run.owes log_seen log_gives data_seen data_gives stands opened script turns.log_only
-      (length followers) starts ending driven leaves may have_ended leaves_open
+      (length followers) starts ending driven leaves may.runnable have_ended leaves_open
 
   pub followed : AreNewFollowers opened.start followers → HaveFollowed log_seen data_seen stands opened script
       followers actors driven.closed

@@ -1,6 +1,6 @@
 -- A store is finished: its seats are taken in, its table is closed, and its players leave their actors.
-use Rattle.std.proofs.Common.{Bool, List, Option, [], ap, arith, drop, get_or, is_some, length, map, refl, subst, sym}
-use Rattle.std.proofs.Common.{true, ℕ, ◌+◌, ◌<◌, ◌∙◌, ◌≡◌, ◌≤◌}
+use Rattle.std.proofs.Common.{Bool, List, None, Option, [], ap, arith, drop, get_or, is_some, length, map, refl, subst}
+use Rattle.std.proofs.Common.{sym, true, ℕ, ◌+◌, ◌<◌, ◌∙◌, ◌≡◌, ◌≤◌}
 use lib.ListN.{get_elem?}
 use mathlib.Core.Option as maybe
 use Rattle.atomic_table.specs.Seated.{TableId}
@@ -128,11 +128,12 @@ module _ {L D R : Type 0} (log_seen : L → Seen) (log_gives : L → Call → L 
         (groups log_seen log_gives data_seen data_gives about F.all_heard actors left F.parts)
 
     -- the history is listed, as there is room for it
-    pub its_list : (slice : List (Actor R)) → slice ≡ actors → (room : ℕ) → length about.script.value ≤ room
-        → (history : List Entry)
+    pub its_list : about.live ≡ None → (slice : List (Actor R)) → slice ≡ actors → (room : ℕ)
+        → length about.script.value ≤ room → (history : List Entry)
         → (length (all_listed left.marks (views_of slice)) ≤ room → ListsInOrder left.marks (views_of slice) history)
         → ListsInOrder left.marks (views_of actors) history
-    its_list slice is room enough history lists =
+    its_list fixed slice is room enough history lists =
         subst (λ (l : List (Actor R)). length (all_listed left.marks (views_of l)) ≤ room
         → ListsInOrder left.marks (views_of l) history) is lists
-        (has_room log_seen log_gives data_seen data_gives about F.all_heard (views_of actors) left F.parts room enough)
+        (has_room log_seen log_gives data_seen data_gives about F.all_heard (views_of actors) left F.parts fixed room
+        enough)

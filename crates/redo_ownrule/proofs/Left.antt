@@ -28,6 +28,7 @@ use Rattle.redo_ownrule.specs.Players.{actor_of, crew, IsSamePlayer, place, work
 use Rattle.redo_ownrule.specs.declared.player.Player.{Player}
 use Rattle.redo_ownrule.specs.declared.player.Player.TheVariants as player
 use Rattle.redo_rule.proofs.Finishing.{its_history, its_loss}
+use Rattle.redo_rule.proofs.Told.{fixed_run}
 use Rattle.redo_rule.proofs.Gathered.{heard_at, there}
 use Rattle.redo_rule.specs.Closing.{LeavesParts, TellsLoss}
 use Rattle.redo_rule.specs.Handing.{IsOfRun}
@@ -117,7 +118,7 @@ module _ {L D R : Type 0} (log_seen : L → Seen) (log_gives : L → Call → L 
     (log_is : closed.log ≡ left.log) (store_is : closed.store ≡ left.store)
     (marks_is : ◌≡◌ {A = Marks} closed.marks left.marks) (code_is : closed.code ≡ left.code)
     (listed : ListsInOrder left.marks (views_of actors) closed.history)
-    (loss : TellsLoss about.archive (views_of actors) closed.lost) where
+    (loss : TellsLoss about.archive (views_of actors) closed.lost) (fixed : about.live ≡ None) where
   abbrev its_run : (stands : R → List Given → Type 0) (first : Option LogWork) (starts : List (Player R))
       → is_some first ≡ own → AllZip IsSamePlayer starts ps
       → HaveHeard stands (map actor_of starts) seats (map actor_of ps)
@@ -125,7 +126,7 @@ module _ {L D R : Type 0} (log_seen : L → Seen) (log_gives : L → Call → L 
       about.log_only about.archive about.followers (crew first starts) actors closed
   its_run stands first starts works_first same H = record {
     run = P.run;
-    is_run = P.is_about.is_run;
+    is_run = fixed_run log_seen data_seen about P.run fixed P.is_about;
     begun = P.is_about.begun;
     last = P.last;
     from = record {

@@ -2,6 +2,8 @@ pub mod Crews
 pub mod Ended
 pub mod Finished
 pub mod Left
+pub mod LiveLeft
+pub mod LiveOpened
 pub mod Losses
 pub mod Matched
 pub mod Opened

@@ -39,6 +39,7 @@ use Rattle.redo_ownrule.specs.declared.player.Player.{Player}
 use Rattle.redo_ownrule.specs.declared.shared.Shared.{Shared}
 use Rattle.redo_ownrule.specs.declared.staffing.Staff.{Staff}
 use Rattle.redo_rule.proofs.Opens as opens
+use Rattle.redo_store.specs.{IsRunnable}
 use Rattle.redo_words.specs.{shape_layout}
 use Rattle.model_core.specs.declared.words.Layout.{Layout}
 use Rattle.redo_rule.specs.Cutting.{IsFirst}
@@ -52,7 +53,7 @@ use Rattle.redo_rule.specs.declared.law.Slot.{Slot}
 use Rattle.redo_rule.specs.declared.law.View.{View}
 
 -- the cleaner has its own seat
-cleaner_place : (c : Setup) (seat_of : ℕ → ℕ) (writer n : ℕ) (a : model.Actor) → StartActor c seat_of writer n a
+pub cleaner_place : (c : Setup) (seat_of : ℕ → ℕ) (writer n : ℕ) (a : model.Actor) → StartActor c seat_of writer n a
     → IsCleaner a → n ≡ c.cleaner
 cleaner_place c seat_of writer n (model.Cleaner v) is cleaner = is.0
 cleaner_place c seat_of writer n _ is cleaner = absurd cleaner
@@ -61,8 +62,8 @@ its_state : (a : model.Actor) → IsCleaner a → (v : CleanerState) × (a ≡ m
 its_state (model.Cleaner v) is = (v, refl)
 its_state _ is = absurd is
 
-none_there : (c : Setup) (actors : List model.Actor) → AreSeated c actors → c.log_only ≡ true → (i : ℕ)
-    (a : model.Actor) → get_elem? actors i ≡ maybe.some a → IsCleaner a → ⊥
+pub none_there : {live : Bool} (c : Setup) (actors : List model.Actor) → AreSeated live c actors → c.log_only ≡ true
+    → (i : ℕ) (a : model.Actor) → get_elem? actors i ≡ maybe.some a → IsCleaner a → ⊥
 none_there c actors S alone i a at is =
     let v = its_state a is in
     no_cleaner c actors S alone i v.0 (at ∙ ap (λ (z : model.Actor). maybe.some z) v.1)
@@ -76,8 +77,8 @@ player_at (p ∷ ps) zero a at = (p, refl, maybe.some-injective (view_of (actor_
 player_at (p ∷ ps) (suc i) a at = player_at ps i a at
 
 module _ {L D R : Type 0} (log_seen : L → Seen) (data_seen : D → Seen) (stands : R → List Given → Type 0)
-    (about : About L D) (followers : List (Following R)) (many : about.followers ≡ length followers)
-    (start : Beginning L D R)
+    (about : About L D) (fixed : about.live ≡ None) (followers : List (Following R))
+    (many : about.followers ≡ length followers) (start : Beginning L D R)
     (B : BeginsWith log_seen data_seen stands about.opened.value about.script.value about.log_only about.archive followers
     start)
     (may : MayBegin about.opened.value about.script.value about.log_only) (staff : Staff R)
@@ -92,7 +93,7 @@ module _ {L D R : Type 0} (log_seen : L → Seen) (data_seen : D → Seen) (stan
   crew_is = ap (λ (l : List (Actor R)). views_of l) (sym S.are)
 
   pub starts_are : ◌≡◌ {A = List model.Actor} (starts_about about) (views_of (crew staff.work ps))
-  starts_are = sym (opens.are log_seen data_seen stands about followers many start B) ∙ crew_is
+  starts_are = sym (opens.are log_seen data_seen stands about fixed followers many start B) ∙ crew_is
 
   first_is_seated : ◌≡◌ {A = List Numbered} (first_view about).seats
       (seated (place about.own_writes ps) none_heard 0 ps)
@@ -131,7 +132,7 @@ module _ {L D R : Type 0} (log_seen : L → Seen) (data_seen : D → Seen) (stan
       (opens.slots_of start.parts (record { block = block; own = side_of staff.work ps }))
       → Ruled log_seen log_gives data_seen data_gives about (opening ws xs (first_view about))
   opens_players log_gives data_gives lists_are block ws xs words slots =
-      opens.opens_ok log_seen log_gives data_seen data_gives stands about followers many start B lists_are
+      opens.opens_ok log_seen log_gives data_seen data_gives stands about fixed followers many start B lists_are
       (record { block = block; own = side_of staff.work ps })
       (sym S.works ∙ sym (side_is staff.work ps)) (works about.own_writes staff.work S.works S.order S.are)
       stand ws xs words slots
@@ -162,7 +163,7 @@ module _ {L D R : Type 0} (log_seen : L → Seen) (data_seen : D → Seen) (stan
       empty = ap (λ (v : View L D). v.held) view;
       rest = λ i y e.
           let there = stand i y (ap (λ (v : View L D). get_elem? v.seats i) (sym view) ∙ e) in (
-            opens.fresh log_seen data_seen stands about followers many start B y.number y.actor there.here,
+            opens.fresh log_seen data_seen stands about fixed followers many start B y.number y.actor there.here,
             there.idle,
           );
       home = λ d has. sym (ap (λ (o : Option (Keeping D)). opens.is_out o)
@@ -179,7 +180,7 @@ module _ {L D R : Type 0} (log_seen : L → Seen) (data_seen : D → Seen) (stan
     fit : length (starts_about about) ≤ vec_capacity shared.actors
     fit =
         let s = ap (λ (l : List model.Actor). length l)
-        (sym (opens.are log_seen data_seen stands about followers many start B)) in
+        (sym (opens.are log_seen data_seen stands about fixed followers many start B)) in
         let m = length_views start.actors.items in
         let r = S.room in
         let same = ap vec_capacity room_is in omega arith
@@ -204,9 +205,10 @@ module _ {L D R : Type 0} (log_seen : L → Seen) (data_seen : D → Seen) (stan
     pub unseated : IsUnseated shared ps
     unseated = record {
       ready = record {
-        may = subst (λ (z : About L D). MayBegin z.opened.value z.script.value z.log_only) (sym key) may;
+        runnable = subst (λ (z : About L D). IsRunnable z.opened.value) (sym key) may.runnable;
+        may = λ _. subst (λ (z : About L D). MayBegin z.opened.value z.script.value z.log_only) (sym key) may;
         no_entries = no_entries;
-        room = subst (λ (z : About L D). length z.script.value ≤ vec_capacity shared.entries) (sym key) room;
+        room = λ _. subst (λ (z : About L D). length z.script.value ≤ vec_capacity shared.entries) (sym key) room;
         no_actors = subst (λ (v : Vec (Actor R) Global). v.items ≡ []) (sym room_is) S.empty;
         actors_fit = subst (λ (z : About L D). length (starts_about z) ≤ vec_capacity shared.actors) (sym key) fit;
       };

@@ -290,6 +290,8 @@ module _ {L D : Type 0} (log_seen : L → Seen) (log_gives : L → Call → L �
             beside (actors_of after) R.heard
         leaves = record {
           same = same;
+          run = R.run;
+          is_about = R.is_about;
           runs = runs_behind.runs;
           own_is = ap (λ (z : Option OwnSide). is_some z) (sym own_is);
           own = record { others = worked.others; are = refl; errands = runs_behind.errands };

@@ -1,6 +1,6 @@
 -- The same player, later.
 use Rattle.std.proofs.Common.{Bool, List, [], ap, append-nil, cond, false, refl, subst, sym, true, ⊎_elim, ◌∙◌, ◌≡◌}
-use Rattle.model_core.proofs.Later.{checked_keeps, Keeps, later_refl, took_keeps}
+use Rattle.model_core.proofs.Later.{checked_keeps, Keeps, later_refl, still, took_keeps}
 use Rattle.model_core.specs.{FlusherState, flusher_took, Given, heard, old_of, user_took, UserState, writer_took, WriterState}
 use Rattle.model_core.specs.Actors as model
 use Rattle.model_core.specs.Later.{IsSameActor}
@@ -36,7 +36,7 @@ gone_later log_seen data_seen a step b gone = ⊎_elim
     (λ played. played_later log_seen data_seen a b step played)
     gone
 
--- a user that writes for itself keeps its number and its lines
+-- a user that writes for itself keeps what any user does
 module _ (o : OwnUser) (k : LogWork) (r : Answer) where
   abbrev Same : OwnUser → Type 0
   Same x = Keeps o.user x.user
@@ -58,23 +58,25 @@ module _ (o : OwnUser) (k : LogWork) (r : Answer) where
       (record o { user = then; helped = cond (keeps_helped o.user.step) o.helped false }) same same
 
   writer_same : (s : WriterState) (w : WriterStep) → Same (after_writer o k s w).0
-  writer_same s (writer_step.Advance v) = either s.checks (written o k s) (o, record k { writer = s }) (refl, refl) (refl, refl)
-  writer_same s writer_step.LoadCheckpoint = either s.checks (written o k s) (o, record k { writer = s }) (refl, refl) (refl, refl)
-  writer_same s _ = (refl, refl)
+  writer_same s (writer_step.Advance v) =
+      either s.checks (written o k s) (o, record k { writer = s }) (still o.user) (still o.user)
+  writer_same s writer_step.LoadCheckpoint =
+      either s.checks (written o k s) (o, record k { writer = s }) (still o.user) (still o.user)
+  writer_same s _ = still o.user
 
   flusher_same : (f : FlusherState) (w : FlusherStep) → Same (after_flusher o k f w).0
-  flusher_same f flusher_step.LoadWrite = (refl, refl)
-  flusher_same f _ = (refl, refl)
+  flusher_same f flusher_step.LoadWrite = still o.user
+  flusher_same f _ = still o.user
 
   takes_same : (a : Answer) → Same (errand_took o k a errand_step.TakeDevice).0
-  takes_same (answer.Taken n) = (refl, refl)
-  takes_same answer.Broken = (refl, refl)
-  takes_same _ = (refl, refl)
+  takes_same (answer.Taken n) = still o.user
+  takes_same answer.Broken = still o.user
+  takes_same _ = still o.user
 
   errand_same : (x : ErrandStep) → Same (errand_took o k r x).0
   errand_same errand_step.Done = steps_same
   errand_same errand_step.TakeDevice = takes_same r
-  errand_same errand_step.GiveBroken = (refl, refl)
+  errand_same errand_step.GiveBroken = still o.user
   errand_same errand_step.Write = let s = writer_took k.writer r k.writer.step in writer_same s s.step
   errand_same errand_step.Flush = let f = flusher_took k.flusher r k.flusher.step in flusher_same f f.step
 
@@ -89,7 +91,7 @@ own_later log_seen data_seen o step x gone = ⊎_elim
     (later_refl (model.User o.user)))
     (λ played. let same = own_same o played.work played.answer in
     subst (λ (y : OwnUser). IsSameActor (model.User o.user) (model.User y.user)) (sym played.is)
-    ((own_goes_on o played.work played.answer).0.user, refl, same.0, same.1))
+    ((own_goes_on o played.work played.answer).0.user, refl, same.0, same.1, same.2, same.3, same.4))
     gone
 
 module _ {L D R : Type 0} (log_seen : L → Seen) (data_seen : D → Seen) {v : View L D} (p : Player R) (step : Step) where

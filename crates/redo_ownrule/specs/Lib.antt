@@ -1,5 +1,7 @@
 pub mod Gathering
 pub mod Leaving
+pub mod LiveLeaving
+pub mod LiveSharing
 pub mod OwnCauses
 pub mod OwnMine
 pub mod OwnOp

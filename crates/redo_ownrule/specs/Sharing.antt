@@ -1,5 +1,5 @@
 -- A store that its players share, as its run begins, and with all its seats given.
-use Rattle.std.specs.Prelude.{Bool, IfSome, IsSome, List, Option, Some, [], is_some, length, map, true, vec_capacity, ℕ, ◌+◌, ◌≡◌, ◌≤◌}
+use Rattle.std.specs.Prelude.{Bool, IfSome, IsSome, List, None, Option, Some, [], false, is_some, length, map, true, vec_capacity, ℕ, ◌+◌, ◌≡◌, ◌≤◌}
 use lib.ListN.{get_elem?}
 use mathlib.Core.Option.{some}
 use Rattle.atomic_table.specs.Seated.{TableId}
@@ -22,8 +22,10 @@ use Rattle.redo_rule.specs.Mine.{number_of}
 use Rattle.redo_rule.specs.Ruled.{none_heard, starts_about}
 use Rattle.redo_rule.specs.Seating.{HasPart, IsCleaner}
 use Rattle.redo_rule.specs.declared.law.About.{About}
+use Rattle.redo_rule.specs.declared.law.Live.{Live}
 use Rattle.redo_rule.specs.declared.law.Slot.{Slot}
 use Rattle.redo_rule.specs.declared.law.View.{View}
+use Rattle.redo_store.specs.{IsRunnable}
 use Rattle.redo_store.specs.declared.opened.Opened.{Opened}
 
 -- each of them is at rest
@@ -62,11 +64,24 @@ module _ {L D R : Type 0} where
     pub each : (i : ℕ) (seat : Seat (Slot L D) (View L D)) (p : Player R) → get_elem? seats i ≡ some seat
         → get_elem? players i ≡ some p → IsPlayerSeat table seat p × (number_of seat.me.0 ≡ place own players i)
 
-  -- the run may begin, and there is room for its history and for the actors that it leaves
+  -- No line is handed in to the run: its script was told as it began.
+  abbrev pub IsFixed : Shared L D R → Type 0
+  IsFixed shared = shared.board.shared.key.live ≡ None
+
+  -- THE RUN IS A LIVE ONE: its lines are handed in while it goes on, and none was told as it began. It isn't archived.
+  pub record IsLive (shared : Shared L D R) : Type 0 where
+    pub live : Live
+    pub is_live : shared.board.shared.key.live ≡ Some live
+    pub no_script : shared_script shared ≡ []
+    pub apart : shared.board.shared.key.archive ≡ false
+
+  -- A run can start on the store, and there is room for the actors that it leaves. Where its script was told, that may begin,
+  -- and there is room for its history.
   pub record HasRoomToBegin (shared : Shared L D R) : Type 0 where
-    pub may : MayBegin (opened_of shared) (shared_script shared) shared.board.shared.key.log_only
+    pub runnable : IsRunnable (opened_of shared)
+    pub may : IsFixed shared → MayBegin (opened_of shared) (shared_script shared) shared.board.shared.key.log_only
     pub no_entries : shared.entries.items ≡ []
-    pub room : length (shared_script shared) ≤ vec_capacity shared.entries
+    pub room : IsFixed shared → length (shared_script shared) ≤ vec_capacity shared.entries
     pub no_actors : shared.actors.items ≡ []
     pub actors_fit : length (starts_of shared) ≤ vec_capacity shared.actors
 
@@ -96,6 +111,7 @@ module _ {L D R : Type 0} where
     pub own_is : own_of shared ≡ own_writes
     pub archive_is : shared.board.shared.key.archive ≡ archive
     pub followers_are : shared.board.shared.key.followers ≡ length followers
+    pub fixed : IsFixed shared
     pub work : Option LogWork
     pub works : is_some work ≡ own_writes
     pub actors_are : starts_of shared ≡ views_of (crew work players)

@@ -6,7 +6,7 @@ ghost use Rattle.redo_drive.specs.History.{ListsInOrder};
 ghost use Rattle.redo_drive.specs.Views.{views_of};
 ghost use Rattle.redo_ownrule.specs.Leaving.{LeavesHeard};
 ghost use Rattle.redo_ownrule.specs.Players.{AreInOrder, IsSamePlayer, actor_of, crew, workers};
-ghost use Rattle.redo_ownrule.specs.Sharing.{AllAtRest, AreActorsOf, AreSeatsOf, IsSeated, opened_of, own_of, shared_script, starts_of, table_of};
+ghost use Rattle.redo_ownrule.specs.Sharing.{AllAtRest, AreActorsOf, AreSeatsOf, IsFixed, IsSeated, opened_of, own_of, shared_script, starts_of, table_of};
 ghost use Rattle.redo_ownrule.specs.declared.player.Player.{Player as ThePlayer};
 ghost use Rattle.redo_rule.specs.Closing.{IsOwedRun, TellsLoss};
 ghost use Rattle.redo_rule.specs.Cutting.{HoldNothing};
@@ -24,9 +24,9 @@ use redo_follow::Receiver;
 use redo_rule::{Left, Seat, close_table};
 
 impl<L: Sectors, D: Sectors, R: Receiver + Drop> Shared<L, D, R> {
-    /// What the run leaves, given the seats of all players, each of which is at rest, and what the append to the archive met that
-    /// failed: its history, its marks, both parts, and the
-    /// code in FAILED; and its actors, with the writer and the flusher as far as users that wrote for themselves have brought them.
+    /// What the run of a script leaves, given the seats of all players, each of which is at rest, and what the append to the
+    /// archive met that failed: its history, its marks, both parts, and the code in FAILED; and its actors, with the writer and
+    /// the flusher as far as users that wrote for themselves have brought them.
     pub fn finish(
         self,
         seats: Vec<Seat<L, D>>,
@@ -34,6 +34,7 @@ impl<L: Sectors, D: Sectors, R: Receiver + Drop> Shared<L, D, R> {
         lost: Option<DevError>,
     ) -> (Closed<L, D>, Vec<Actor<R>>)
         requires seated { IsSeated self }
+        requires fixed { IsFixed self }
         requires seats { AreSeatsOf (table_of self) (own_of self) seats.items players.items }
         requires order { AreInOrder (own_of self) players.items }
         requires all { length players.items + workers (own_of self) ≡ length (starts_of self) }

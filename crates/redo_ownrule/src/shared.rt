@@ -64,6 +64,7 @@ impl<L: Sectors, D: Sectors, R: Receiver + Drop> Shared<L, D, R> {
         let about = About {
             opened: opened_is,
             script: Snapshot::of(script),
+            live: None,
             log_only,
             archive,
             followers: count,

@@ -18,7 +18,7 @@ pub(crate) struct Staff<R: Receiver> {
 }
 
 /// Each actor plays by its own program.
-fn take_plain<R: Receiver + Drop>(
+pub(crate) fn take_plain<R: Receiver + Drop>(
     alloc: Global,
     actors: Vec<Actor<R>>,
 ) -> Result<Staff<R>, NoMemory>

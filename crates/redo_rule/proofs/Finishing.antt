@@ -1,6 +1,6 @@
 -- What a table leaves is what a run leaves, and so what every drive owes.
 use Rattle.std.proofs.Common.{Bool, cond, List, None, Option, Some, get_or, ap, arith, drop, false, get_or-set_other, length, refl, subst, suc, sym, true, zero, ℕ, ◌<◌, ◌^◌, ◌∙◌, ◌∷◌, ◌≡◌, ◌≢◌, ◌≤◌, []}
-use Rattle.std.specs.Prelude.{slice_index, slice_set}
+use Rattle.std.specs.Prelude.{IfSome, slice_index, slice_set}
 use lib.ListN.{get_elem?}
 use mathlib.Core.Option as maybe
 use Rattle.model_core.specs.Actors as model
@@ -13,6 +13,9 @@ use Rattle.model_running.specs.{history_of, marks_in, word_marks}
 use Rattle.model_running.specs.ReadHalf.{ReadsInRun, StaysInRun}
 use Rattle.model_report.specs.declared.entry.Entry.{Entry}
 use Rattle.model_report.specs.declared.entry.Marks.{Marks}
+use Rattle.model_script.specs.declared.script.ScriptLine.{ScriptLine}
+use Rattle.model_store.specs.Reading.{Reading}
+use Rattle.model_theorem.specs.{IsStart}
 use Rattle.redo_archiver.specs.{append_code}
 use Rattle.redo_disk.specs.{Call}
 use Rattle.redo_disk.specs.declared.error.DevError.{DevError}
@@ -22,11 +25,12 @@ use Rattle.redo_drive.proofs.LeftRun as left_run
 use Rattle.redo_drive.proofs.LogCount.{log_within_script}
 use Rattle.redo_drive.proofs.Told.{as_many, have_groups, history_is}
 use Rattle.redo_follow.specs.Following.{Following}
-use Rattle.redo_drive.specs.Startable.{MayBegin}
+use Rattle.redo_drive.specs.Beginning.{HaveBegun, IsRunWith}
+use Rattle.redo_drive.specs.Startable.{HasReading, MayBegin}
 use Rattle.redo_drive.specs.History.{ListsInOrder, all_listed}
 use Rattle.redo_drive.specs.Reserved.{HasGroups}
 use Rattle.redo_drive.specs.Lists.{listing_at}
-use Rattle.redo_drive.specs.Leaving.{LeavesWith}
+use Rattle.redo_drive.specs.Leaving.{LeavesAs, LeavesWith}
 use Rattle.redo_drive.specs.Playing.{run_log_side}
 use Rattle.redo_drive.specs.Receiving.{follower_of, HasGot, IsSameFollower}
 use Rattle.redo_drive.specs.Running.{groups_of}
@@ -38,6 +42,8 @@ use Rattle.redo_rule.specs.Closing.{done_with, IsOwedRun, LeavesParts, TellsLoss
 use Rattle.redo_rule.specs.Ending.{RunReaches}
 use Rattle.redo_rule.specs.Slots.{IsData, IsLog, IsPages}
 use Rattle.redo_rule.specs.declared.closing.Left.{Left}
+use Rattle.redo_rule.proofs.Told.{fixed_run}
+use Rattle.redo_store.specs.{IsRunnable}
 use Rattle.redo_rule.specs.declared.law.About.{About}
 use Rattle.model_own.specs.OwnWrites.{LogWork}
 use Rattle.redo_rule.specs.OwnSide.{desk_with, work_of}
@@ -183,12 +189,13 @@ module _ {L D : Type 0} (log_seen : L → Seen) (log_gives : L → Call → L �
     its_marks = P.marks ∙ marks_same P.last.words.words P.runs.running.shared P.runs.running.flat_is
 
     -- there is room for the history
-    pub has_room : (room : ℕ) → length about.script.value ≤ room → length (all_listed left.marks actors) ≤ room
-    has_room room enough =
+    pub has_room : about.live ≡ None → (room : ℕ) → length about.script.value ≤ room
+        → length (all_listed left.marks actors) ≤ room
+    has_room fixed room enough =
         let R = P.runs in
         let many = as_many log_seen data_seen P.run P.last actors R in
         let same : length (all_listed left.marks actors) ≡ length (all_listed (word_marks R.running.shared) actors) = ap (λ (z : Marks). length (all_listed z actors)) its_marks in
-        let within = log_within_script P.run.setup about.script.value about.opened.value.shape R.running.shared.sn R.running.log_ghost.log R.running.log_ghost.place R.running.both.logged.global.tiled P.is_about.is_run.of_script in
+        let within = log_within_script P.run.setup about.script.value about.opened.value.shape R.running.shared.sn R.running.log_ghost.log R.running.log_ghost.place R.running.both.logged.global.tiled (fixed_run log_seen data_seen about P.run fixed P.is_about).of_script in
         omega arith
 
     pub its_history : (history : List Entry) → ListsInOrder left.marks actors history → ◌≡◌ {A = List Entry} history (history_of P.runs.running.log_ghost.answered (word_marks P.runs.running.shared) P.runs.running.log_ghost.log)
@@ -200,22 +207,30 @@ module _ {L D : Type 0} (log_seen : L → Seen) (log_gives : L → Call → L �
     pub groups : (seat : ℕ) (actor : Actor R) → seat < length actors → HasGroups (view_of (get_or actors seat actor))
     groups = have_groups log_seen data_seen P.run P.last actors P.runs
 
+    -- The run is that of this script, a live one or not, and the closed store is what the table leaves, with the run's
+    -- history.
     module _ (closed : Closed L D) (log_is : closed.log ≡ left.log) (store_is : closed.store ≡ left.store)
         (marks_is : ◌≡◌ {A = Marks} closed.marks left.marks) (code_is : closed.code ≡ left.code)
-        (listed : ListsInOrder left.marks (views_of actors) closed.history)
-        (loss : TellsLoss about.archive (views_of actors) closed.lost) where
+        (history_is : ◌≡◌ {A = List Entry} closed.history (history_of P.runs.running.log_ghost.answered
+        (word_marks P.runs.running.shared) P.runs.running.log_ghost.log))
+        (loss : TellsLoss about.archive (views_of actors) closed.lost) (live : Bool) (script : List ScriptLine)
+        (is_run : IsRunWith about.opened.value script live about.log_only about.archive about.followers P.run)
+        (begun : (reading : Reading) → HasReading reading about.opened.value
+        → IfSome (log_seen about.opened.value.log.dev).tells (λ log_disk.
+        IfSome (data_seen about.opened.value.store.dev).tells (λ data_disk.
+        IsStart reading script log_disk data_disk → HaveBegun log_seen data_seen P.run))) where
       leaves_from : (stands : R → List Given → Type 0) (starts : List (Actor R)) → length actors ≡ length starts
           → ((n : ℕ) (a b : Actor R) → get_elem? starts n ≡ maybe.some a → get_elem? actors n ≡ maybe.some b →
           IsSameFollower (follower_of a) (follower_of b))
           → ((run_log_side log_seen data_seen P.run).Tells P.last.log → (n : ℕ) (a b : Actor R) → get_elem? starts n ≡
           maybe.some a → get_elem? actors n ≡ maybe.some b
           → HasGot stands (follower_of a) (groups_of (view_of b) P.runs.running.log_ghost.log) (follower_of b))
-          → LeavesWith log_seen log_gives data_seen data_gives stands about.opened.value about.script.value
-          about.log_only about.archive about.followers starts actors closed
+          → LeavesAs log_seen log_gives data_seen data_gives stands about.opened.value script live about.log_only
+          about.archive about.followers starts actors closed
       leaves_from stands starts count same got = record {
         run = P.run;
-        is_run = P.is_about.is_run;
-        begun = P.is_about.begun;
+        is_run = is_run;
+        begun = begun;
         last = P.last;
         from = record { runs = P.runs; count = count; same = same; got = got };
         log_calls = P.log_calls;
@@ -225,14 +240,14 @@ module _ {L D : Type 0} (log_seen : L → Seen) (log_gives : L → Call → L �
         data_part = store_is ∙ P.data_part;
         marks = marks_is ∙ P.marks;
         code = code_is ∙ P.code;
-        history = its_history heard (views_of actors) left P closed.history listed;
+        history = history_is;
         lost = its_loss P.run.setup about.archive (views_of actors) P.runs.running.both.in_run closed.lost loss;
       }
 
       -- of actors that began with whatever they are, and of receivers of which nothing is told
-      pub leaves_own : LeavesWith log_seen log_gives data_seen data_gives (λ (r : R) (l : List Given). Unit {0})
-          about.opened.value about.script.value about.log_only about.archive about.followers actors actors closed
-      leaves_own = leaves_from (λ r l. Unit {0}) actors refl
+      pub leaves_as : LeavesAs log_seen log_gives data_seen data_gives (λ (r : R) (l : List Given). Unit {0})
+          about.opened.value script live about.log_only about.archive about.followers actors actors closed
+      leaves_as = leaves_from (λ r l. Unit {0}) actors refl
           (λ n a b e f. subst (λ (z : Actor R). IsSameFollower (follower_of a) (follower_of z)) (maybe.some-injective
           a b (sym e ∙ f)) (own_follower (follower_of a)))
           (λ told n a b e f. got_any (follower_of a) (groups_of (view_of b) P.runs.running.log_ghost.log) (follower_of
@@ -248,16 +263,33 @@ module _ {L D : Type 0} (log_seen : L → Seen) (log_gives : L → Call → L �
           got_any (Some f) groups None = tt
           got_any None groups g = tt
 
+      pub owes_as : IsRunnable about.opened.value → IsOwedRun log_seen log_gives data_seen data_gives
+          about.opened.value script (views_of actors) closed
+      owes_as runnable = record {
+        holds = left_run.holds_run log_seen log_gives data_seen data_gives (λ (r : R) (l : List Given). Unit {0})
+            about.opened.value script about.log_only about.followers actors actors (done_with closed)
+            leaves_as runnable;
+        comes_to = λ ended. left_run.comes_to_run log_seen log_gives data_seen data_gives (λ (r : R) (l : List Given).
+            Unit {0}) about.opened.value script about.log_only about.followers actors actors (done_with
+            closed) leaves_as runnable (λ e. ended) (λ turns user e. absurd (cc));
+        owed_synced = λ ended. left_run.is_owed_synced log_seen log_gives data_seen data_gives (λ (r : R) (l : List
+            Given). Unit {0}) about.opened.value script about.log_only about.followers actors actors
+            (done_with closed) leaves_as runnable (λ e. ended);
+      }
+
+    -- the script is the one that the table was told, and the history is listed
+    module _ (closed : Closed L D) (log_is : closed.log ≡ left.log) (store_is : closed.store ≡ left.store)
+        (marks_is : ◌≡◌ {A = Marks} closed.marks left.marks) (code_is : closed.code ≡ left.code)
+        (listed : ListsInOrder left.marks (views_of actors) closed.history)
+        (loss : TellsLoss about.archive (views_of actors) closed.lost) (fixed : about.live ≡ None) where
+      pub leaves_own : LeavesWith log_seen log_gives data_seen data_gives (λ (r : R) (l : List Given). Unit {0})
+          about.opened.value about.script.value about.log_only about.archive about.followers actors actors closed
+      leaves_own = leaves_as closed log_is store_is marks_is code_is
+          (its_history heard (views_of actors) left P closed.history listed) loss false about.script.value
+          (fixed_run log_seen data_seen about P.run fixed P.is_about) P.is_about.begun
+
       pub is_owed : MayBegin about.opened.value about.script.value about.log_only → IsOwedRun log_seen log_gives
           data_seen data_gives about.opened.value about.script.value (views_of actors) closed
-      is_owed may = record {
-        holds = left_run.holds_run log_seen log_gives data_seen data_gives (λ (r : R) (l : List Given). Unit {0})
-            about.opened.value about.script.value about.log_only about.followers actors actors (done_with closed)
-            leaves_own may;
-        comes_to = λ ended. left_run.comes_to_run log_seen log_gives data_seen data_gives (λ (r : R) (l : List Given).
-            Unit {0}) about.opened.value about.script.value about.log_only about.followers actors actors (done_with
-            closed) leaves_own may (λ e. ended) (λ turns user e. absurd (cc));
-        owed_synced = λ ended. left_run.is_owed_synced log_seen log_gives data_seen data_gives (λ (r : R) (l : List
-            Given). Unit {0}) about.opened.value about.script.value about.log_only about.followers actors actors
-            (done_with closed) leaves_own may (λ e. ended);
-      }
+      is_owed may = owes_as closed log_is store_is marks_is code_is
+          (its_history heard (views_of actors) left P closed.history listed) loss false about.script.value
+          (fixed_run log_seen data_seen about P.run fixed P.is_about) P.is_about.begun may.runnable

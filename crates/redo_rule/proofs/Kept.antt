@@ -35,6 +35,7 @@ use Rattle.redo_logdev.specs.Part as log
 use Rattle.redo_drive.proofs.LogPartLaws.{log_laws}
 use Rattle.redo_drive.specs.LogPartSide as log_part
 use Rattle.redo_drive.proofs.MayTurn as may_turn
+use Rattle.redo_drive.proofs.Told.{has_groups}
 use Rattle.redo_drive.proofs.TurnsOf as turns
 use Rattle.redo_drive.specs.Calls.{CallsOn}
 use Rattle.redo_drive.specs.Lists.{AreLists, lists_of}
@@ -53,7 +54,7 @@ use Rattle.redo_rule.proofs.OwnStays.{work_stays, worker_holds}
 use Rattle.redo_rule.specs.Handing.{appended_by, HaveHandedOn, HaveLoaded, with_more}
 use Rattle.redo_rule.specs.OwnSide.{Beside, desk_with, HasItsWork, OwnSide, SitsAs}
 use Rattle.redo_rule.specs.Plays.{behind, MayGo, Shown, Stepped, view_behind}
-use Rattle.redo_rule.specs.Ruled.{IsSlotHeld, Knows, Ruled, slot_content}
+use Rattle.redo_rule.specs.Ruled.{IsRunAbout, IsSlotHeld, Knows, Ruled, slot_content}
 use Rattle.redo_rule.specs.declared.law.About.{About}
 use Rattle.redo_rule.specs.declared.law.Desk.{Desk}
 use Rattle.redo_rule.specs.declared.law.Errand.{Errand}
@@ -122,6 +123,11 @@ laws_of_data log_seen data_seen run = data_laws data_seen (data_seen run.first_d
 pub all_answered : (E : LogSide) (c : Setup) (m : SharedWords) (g : LogGhost) (p : E.Part) (n : ℕ) (u : UserState) → u.step ≡ user_step.Done → UserFits E c m g p n u → u.k ≡ length u.lines
 all_answered E c m g p n u at_end fits = (subst (UserAt E c m g p n u) at_end fits.step).1
 
+-- it has reserved as many groups as it has answered
+pub none_in_hand : (E : LogSide) (c : Setup) (m : SharedWords) (g : LogGhost) (p : E.Part) (n : ℕ) (u : UserState)
+    → u.step ≡ user_step.Done → UserFits E c m g p n u → length u.starts ≡ u.k
+none_in_hand E c m g p n u at_end fits = (subst (UserAt E c m g p n u) at_end fits.step).0
+
 pub done_is_free : (E : LogSide) (c : Setup) (m : SharedWords) (g : LogGhost) (p : E.Part) (n : ℕ) (u : UserState) → u.step ≡ user_step.Done → UserFits E c m g p n u → u.checks ≡ false
 done_is_free E c m g p n u at_end fits = (subst (UserAt E c m g p n u) at_end fits.step).2
 
@@ -185,6 +191,10 @@ module _ {L D : Type 0} {archive : Bool} (log_seen : L → Seen) (data_seen : D 
     whole = λ d is. subst (λ (e : store.Part D). HasWholePages e.shape (next a) (lent a)) (sym (with_data d is)) whole_pages;
     free = free;
     done = λ u is at_end. all_answered (run_log_side log_seen data_seen run) run.setup runs.running.shared runs.running.log_ghost parts.log n u at_end (runs.running.both.logged.each n (model.User u) (at ∙ ap (λ (z : model.Actor). maybe.some z) is));
+    no_more = λ u is at_end. none_in_hand (run_log_side log_seen data_seen run) run.setup runs.running.shared
+        runs.running.log_ghost parts.log n u at_end (runs.running.both.logged.each n (model.User u)
+        (at ∙ ap (λ (z : model.Actor). maybe.some z) is));
+    groups = has_groups log_seen data_seen run parts actors runs n a at;
     rest = λ e. (
       subst (λ (o : Op). AnswerFits a (answer_to o)) e (fits_all 0 0),
       subst (λ (o : Op). MarkFits a
@@ -231,15 +241,17 @@ module _ {L D : Type 0} (log_seen : L → Seen) (log_gives : L → Call → L �
   pub record Leaves (then : Numbered) (new : Parts L D) (beside : Beside) (after : List model.Actor)
       (heard : ℕ → Heard) : Type 0 where
     pub same : HasSamePages R.parts new
-    pub runs : RunsWith log_seen data_seen R.run about.archive new after
+    pub run : RunOf L D
+    pub is_about : IsRunAbout log_seen data_seen about run
+    pub runs : RunsWith log_seen data_seen run about.archive new after
     pub own_is : is_some beside.own ≡ is_some R.beside.own
-    pub own : HasItsWork (run_log_side log_seen data_seen R.run) new.log beside.own after
-    pub hears : HaveHandedOn (run_log_side log_seen data_seen R.run) R.run.setup.base new.log heard after
+    pub own : HasItsWork (run_log_side log_seen data_seen run) new.log beside.own after
+    pub hears : HaveHandedOn (run_log_side log_seen data_seen run) run.setup.base new.log heard after
         runs.running.log_ghost.log
     pub loaded : HaveLoaded new.words.words after
     pub count : length after ≡ length R.actors
     pub told : (n : ℕ) (c : model.Actor) (code : ℕ) → get_elem? after n ≡ maybe.some c → GivesFailed c code
-        → (run_log_side log_seen data_seen R.run).Cause new.log code
+        → (run_log_side log_seen data_seen run).Cause new.log code
     pub number : then.number ≡ x.number
     pub here : get_elem? after x.number ≡ maybe.some then.actor
     pub its_heard : ◌≡◌ {A = Heard} (heard x.number) then.heard
@@ -321,8 +333,8 @@ module _ {L D : Type 0} (log_seen : L → Seen) (log_gives : L → Call → L �
           → ((k : ℕ) → k < 5 → slice_index new.words.words (7 + k) ≢ 0 → IsSlotHeld after k)
           → Ruled log_seen log_gives data_seen data_gives about (record { words = new.words.words; homes = hs; views = slice_set s.views id w })
       kept_then hs are log_calls data_calls shape long home data_home taken = record {
-        run = R.run;
-        is_about = R.is_about;
+        run = left.run;
+        is_about = left.is_about;
         parts = new;
         beside = beside;
         actors = after;
@@ -500,6 +512,8 @@ module _ {L D : Type 0} (log_seen : L → Seen) (log_gives : L → Call → L �
         leaves : Leaves (behind x f r) new beside after heard
         leaves = record {
           same = same;
+          run = R.run;
+          is_about = R.is_about;
           runs = runs_behind;
           own_is = ap (λ (z : Option OwnSide). is_some z) same_own;
           own = own_behind;

@@ -14,12 +14,15 @@ pub mod Filled
 pub mod Finishing
 pub mod Gathered
 pub mod GivenBack
+pub mod GrownScript
+pub mod HandedIn
 pub mod Hearing
 pub mod Holders
 pub mod Kept
 pub mod Laid
 pub mod Loading
 pub mod Opens
+pub mod OpensLive
 pub mod OwnStays
 pub mod Reached
 pub mod Retook

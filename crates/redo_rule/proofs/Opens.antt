@@ -1,6 +1,6 @@
 -- The rule holds of a table that was made of parts and actors at the beginning of a run.
 use Rattle.std.proofs.Common.{Bool, List, None, Option, Some, [], ap, arith, cond, false, is_some, length, map, refl, subst, suc, sym, true, zero, ℕ, ◌+◌, ◌<◌, ◌∙◌, ◌∷◌, ◌≡◌, ◌≤◌}
-use Rattle.std.specs.Prelude.{slice_index}
+use Rattle.std.specs.Prelude.{IfSome, slice_index}
 use lib.ListN.{get_elem?}
 use mathlib.Core.Option as maybe
 use Rattle.atomic_table.specs.Table.{opening}
@@ -15,16 +15,20 @@ use Rattle.model_logcore.specs.{StartActor}
 use Rattle.model_running.proofs.FlatWords.{flat_read}
 use Rattle.model_running.proofs.Following.{upto_back}
 use Rattle.model_running.specs.ReadHalf.{groups_upto}
+use Rattle.model_script.specs.declared.script.ScriptLine.{ScriptLine}
+use Rattle.model_store.specs.Reading.{Reading}
+use Rattle.model_theorem.specs.{IsStart}
 use Rattle.redo_disk.specs.{Call}
 use Rattle.redo_disk.specs.Seen.{Seen}
 use Rattle.redo_logdev.specs.Part as log
 use Rattle.redo_drive.proofs.CallsOn.{not_called}
-use Rattle.redo_drive.specs.Begins.{BeginsWith}
+use Rattle.redo_drive.specs.Begins.{BeginsOn, BeginsWith}
 use Rattle.redo_drive.specs.Calls.{CallsOn}
 use Rattle.redo_drive.specs.Lists.{AreLists, listing_at}
-use Rattle.redo_drive.specs.Beginning.{IsRunWith}
+use Rattle.redo_drive.specs.Beginning.{HaveBegun, IsRunWith}
 use Rattle.redo_drive.specs.Running.{groups_of}
 use Rattle.redo_drive.specs.Setups.{seated_actors}
+use Rattle.redo_drive.specs.Startable.{HasReading}
 use Rattle.redo_drive.specs.Views.{views_of}
 use Rattle.redo_drive.specs.declared.making.Beginning.{Beginning}
 use Rattle.redo_drive.specs.declared.parts.Parts.{Parts}
@@ -37,11 +41,13 @@ use Rattle.redo_follow.specs.Following.{Following}
 use Rattle.redo_rule.proofs.Seated.{not_working}
 use Rattle.redo_drive.specs.Playing.{run_log_side}
 use Rattle.redo_rule.specs.Handing.{nothing}
+use Rattle.redo_rule.specs.Lively.{HasRoom}
 use Rattle.redo_rule.specs.OwnSide.{Beside, desk_with, HasItsWork, HasNoWork, OwnSide, SitsAs}
-use Rattle.redo_rule.specs.Ruled.{first_view, Knows, none_heard, Ruled, slot_content, starts_about}
+use Rattle.redo_rule.specs.Ruled.{first_view, Knows, none_heard, Ruled, slot_content, starts_about, starts_with}
 use Rattle.redo_rule.specs.declared.law.About.{About}
 use Rattle.redo_rule.specs.declared.law.Heard.{Heard}
 use Rattle.redo_rule.specs.declared.law.Keeping.{Keeping}
+use Rattle.redo_rule.specs.declared.law.Live.{Live}
 use Rattle.redo_rule.specs.declared.law.Numbered.{Numbered}
 use Rattle.redo_rule.specs.declared.law.Slot.{Slot}
 use Rattle.redo_rule.specs.declared.law.Slot.TheVariants as slot
@@ -110,35 +116,40 @@ pub record Stands (own : Option OwnSide) (actors : List model.Actor) (x : Number
 abbrev pub AllStand : Option OwnSide → List model.Actor → List Numbered → Type 0
 AllStand own actors seats = (i : ℕ) (x : Numbered) → get_elem? seats i ≡ maybe.some x → Stands own actors x
 
-module _ {L D R : Type 0} (log_seen : L → Seen) (data_seen : D → Seen) (stands : R → List Given → Type 0) (about :
-    About L D)
-    (followers : List (Following R)) (many : about.followers ≡ length followers) (start : Beginning L D R)
-    (B : BeginsWith log_seen data_seen stands about.opened.value about.script.value about.log_only about.archive followers
+-- A TABLE IS TOLD OF A RUN as it begins with these actors: that of a script, or a live one.
+pub record IsToldOf {L D R : Type 0} (log_seen : L → Seen) (data_seen : D → Seen) (stands : R → List Given → Type 0)
+    (about : About L D) (script : List ScriptLine) (live : Bool) (followers : List (Following R))
+    (firsts : (log_only : Bool) → List model.Actor) (start : Beginning L D R)
+    (B : BeginsOn log_seen data_seen stands about.opened.value script live about.log_only about.archive followers firsts
+    start) : Type 0 where
+  pub script_is : script ≡ about.script.value
+  pub live_is : is_some about.live ≡ live
+  pub many : about.followers ≡ length followers
+  pub firsts_are : ◌≡◌ {A = List model.Actor} (firsts about.log_only) (starts_about about)
+  pub room : (l : Live) → about.live ≡ Some l
+      → HasRoom l about.opened.value.shape script (length (starts_about about)) B.run.setup
+
+module _ {L D R : Type 0} (log_seen : L → Seen) (data_seen : D → Seen) (stands : R → List Given → Type 0)
+    (about : About L D) (script : List ScriptLine) (live : Bool) (followers : List (Following R))
+    (firsts : (log_only : Bool) → List model.Actor) (start : Beginning L D R)
+    (B : BeginsOn log_seen data_seen stands about.opened.value script live about.log_only about.archive followers firsts
     start) where
-  abbrev pub actors : List model.Actor
-  actors = views_of start.actors.items
+  -- the actors are those that the table's run begins with
+  pub starts_so : IsToldOf log_seen data_seen stands about script live followers firsts start B
+      → ◌≡◌ {A = List model.Actor} (views_of start.actors.items) (starts_about about)
+  starts_so T = B.stands.are_new ∙ ap firsts B.is_run.log_only_is ∙ T.firsts_are
 
-  -- they are those that the table's run begins with
-  pub are : ◌≡◌ {A = List model.Actor} actors (starts_about about)
-  are = B.stands.are_new
-      ∙ ap (λ (b : Bool). seated_actors about.opened.value.shape about.script.value about.opened.value.start b
-      about.archive (length followers)) B.is_run.log_only_is
-      ∙ ap (seated_actors about.opened.value.shape about.script.value about.opened.value.start about.log_only
-      about.archive) (sym many)
-
-  begun : (n : ℕ) (a : model.Actor) → get_elem? actors n ≡ maybe.some a → StartActor B.run.setup B.at_start.seat_of
-      B.at_start.writer n a
-  begun n a at = B.at_start.starts.each n a at
-
-  pub fresh : (n : ℕ) (a : model.Actor) → get_elem? actors n ≡ maybe.some a → HoldsNothing a
-  fresh n a at = start_empty B.run.setup B.at_start.seat_of B.at_start.writer n a (begun n a at)
+  -- and none holds anything
+  holds_none : (n : ℕ) (a : model.Actor) → get_elem? (views_of start.actors.items) n ≡ maybe.some a → HoldsNothing a
+  holds_none n a at =
+      start_empty B.run.setup B.at_start.seat_of B.at_start.writer n a (B.at_start.starts.each n a at)
 
 module _ {L D R : Type 0} (log_seen : L → Seen) (log_gives : L → Call → L → Type 0) (data_seen : D → Seen) (data_gives
     : D → Call → D → Type 0)
-    (stands : R → List Given → Type 0) (about : About L D) (followers : List (Following R)) (many : about.followers ≡
-    length followers)
-    (start : Beginning L D R) (B : BeginsWith log_seen data_seen stands about.opened.value about.script.value
-    about.log_only about.archive followers start)
+    (stands : R → List Given → Type 0) (about : About L D) (script : List ScriptLine) (live : Bool)
+    (followers : List (Following R)) (firsts : (log_only : Bool) → List model.Actor) (start : Beginning L D R)
+    (B : BeginsOn log_seen data_seen stands about.opened.value script live about.log_only about.archive followers firsts
+    start) (told : IsToldOf log_seen data_seen stands about script live followers firsts start B)
     (lists_are : AreLists start.parts.lists) (beside : Beside) (own_is : about.own_writes ≡ is_some beside.own)
     (worked : HasItsWork (run_log_side log_seen data_seen B.run) start.parts.log beside.own
     (views_of start.actors.items))
@@ -147,7 +158,7 @@ module _ {L D R : Type 0} (log_seen : L → Seen) (log_gives : L → Call → L 
   all = views_of start.actors.items
 
   abbrev fresh_one : (n : ℕ) (a : model.Actor) → get_elem? all n ≡ maybe.some a → HoldsNothing a
-  fresh_one = fresh log_seen data_seen stands about followers many start B
+  fresh_one = holds_none log_seen data_seen stands about script live followers firsts start B
 
   abbrev Known : ℕ → View L D → Type 0
   Known j v = Knows about start.parts beside all none_heard (λ _. 0) 0 false j v
@@ -175,14 +186,26 @@ module _ {L D R : Type 0} (log_seen : L → Seen) (log_gives : L → Call → L 
   free_word (suc i) l = ap (λ (ws : List ℕ). slice_index ws (7 + suc i)) B.at_start.words_are ∙ ap (slice_index (flat B.at_start.words)) (let q : 7 + suc i ≡ 8 + i = omega arith in q)
       ∙ flat_read (layout_of B.run.setup) B.at_start.words B.at_start.starts.words.sized (word.List i) (omega arith) ∙ B.at_start.starts.words.lists i
 
+  -- where the devices tell, they hold what was opened
+  abbrev HasBegunWith : List ScriptLine → Type 0
+  HasBegunWith lines = (reading : Reading) → HasReading reading about.opened.value
+      → IfSome (log_seen about.opened.value.log.dev).tells (λ log_disk.
+      IfSome (data_seen about.opened.value.store.dev).tells (λ data_disk.
+      IsStart reading lines log_disk data_disk → HaveBegun log_seen data_seen B.run))
+
   opens_one : Ruled log_seen log_gives data_seen data_gives about (opening start.parts.words.words (slots_of
       start.parts beside) (first_view about))
   opens_one = record {
     run = B.run;
     is_about = record {
-      is_run = subst (λ (n : ℕ). IsRunWith about.opened.value about.script.value about.log_only about.archive n B.run)
-          (sym many) B.is_run;
-      begun = B.begun;
+      script = script;
+      fixed = λ _. told.script_is;
+      is_run = subst (λ (b : Bool). IsRunWith about.opened.value script b about.log_only about.archive
+          about.followers B.run) (sym told.live_is)
+          (subst (λ (n : ℕ). IsRunWith about.opened.value script live about.log_only about.archive n B.run)
+          (sym told.many) B.is_run);
+      room = told.room;
+      begun = subst HasBegunWith told.script_is B.begun;
     };
     parts = start.parts;
     beside = beside;
@@ -193,7 +216,7 @@ module _ {L D R : Type 0} (log_seen : L → Seen) (log_gives : L → Call → L 
     own_is = own_is;
     own = worked;
     runs = B.from.runs;
-    hears = λ told n a at. record {
+    hears = λ tells n a at. record {
       groups = sym (none_at_start B.run.setup B.at_start.seat_of B.at_start.writer n
           B.from.runs.running.shared.sn B.from.runs.running.log_ghost.log a
           B.from.runs.running.both.logged.global.tiled.tiles (B.at_start.starts.each n a at));
@@ -201,7 +224,7 @@ module _ {L D R : Type 0} (log_seen : L → Seen) (log_gives : L → Call → L 
     };
     loaded = λ n r at. none_loaded B.run.setup B.at_start.seat_of B.at_start.writer n
         (slice_index start.parts.words.words flushed_at) r (B.at_start.starts.each n (model.Reader r) at);
-    count = ap length (are log_seen data_seen stands about followers many start B);
+    count = ap length (starts_so log_seen data_seen stands about script live followers firsts start B told);
     log_calls = subst (λ (z : log.Part L). CallsOn log_gives about.opened.value.log.dev about.opened.value.log.failed z.dev z.failed) (sym B.log) (not_called log_gives about.opened.value.log.dev about.opened.value.log.failed);
     data_calls = subst (λ (z : store.Part D). CallsOn data_gives about.opened.value.store.dev about.opened.value.store.failed z.dev z.failed) (sym B.data_part) (not_called data_gives about.opened.value.store.dev about.opened.value.store.failed);
     log_shape = ap (λ (z : log.Part L). z.shape) B.log;
@@ -217,8 +240,57 @@ module _ {L D R : Type 0} (log_seen : L → Seen) (log_gives : L → Call → L 
     knows = one_view;
   }
 
-  pub opens_ok : (ws : List ℕ) (xs : List (Slot L D)) → ws ≡ start.parts.words.words → ◌≡◌ {A = List (Slot L D)} xs
+  pub opens_any : (ws : List ℕ) (xs : List (Slot L D)) → ws ≡ start.parts.words.words → ◌≡◌ {A = List (Slot L D)} xs
       (slots_of start.parts beside) → Ruled log_seen log_gives data_seen data_gives about (opening ws xs (first_view
       about))
-  opens_ok ws xs words slots_are = subst (λ (z : List ℕ). Ruled log_seen log_gives data_seen data_gives about (opening z xs (first_view about))) (sym words)
-      (subst (λ (z : List (Slot L D)). Ruled log_seen log_gives data_seen data_gives about (opening start.parts.words.words z (first_view about))) (sym slots_are) opens_one)
+  opens_any ws xs words slots_are =
+      subst (λ (z : List ℕ). Ruled log_seen log_gives data_seen data_gives about (opening z xs (first_view about)))
+      (sym words)
+      (subst (λ (z : List (Slot L D)). Ruled log_seen log_gives data_seen data_gives about
+      (opening start.parts.words.words z (first_view about))) (sym slots_are) opens_one)
+
+module _ {L D R : Type 0} (log_seen : L → Seen) (data_seen : D → Seen) (stands : R → List Given → Type 0) (about :
+    About L D)
+    (fixed : about.live ≡ None)
+    (followers : List (Following R)) (many : about.followers ≡ length followers) (start : Beginning L D R)
+    (B : BeginsWith log_seen data_seen stands about.opened.value about.script.value about.log_only about.archive
+    followers start) where
+  abbrev pub script_firsts : (log_only : Bool) → List model.Actor
+  script_firsts b = seated_actors about.opened.value.shape about.script.value about.opened.value.start b about.archive
+      (length followers)
+
+  -- a table that is told a script is told of the script's run
+  pub told_script : IsToldOf log_seen data_seen stands about about.script.value false followers script_firsts start B
+  told_script = record {
+    script_is = refl;
+    live_is = ap (λ (o : Option Live). is_some o) fixed;
+    many = many;
+    firsts_are = ap (seated_actors about.opened.value.shape about.script.value about.opened.value.start about.log_only
+        about.archive) (sym many)
+        ∙ ap (starts_with about) (sym fixed);
+    room = λ live is. (let none : Some live ≡ None = sym is ∙ fixed in absurd (cc));
+  }
+
+  -- its actors are those that the table's run begins with
+  pub are : ◌≡◌ {A = List model.Actor} (views_of start.actors.items) (starts_about about)
+  are = starts_so log_seen data_seen stands about about.script.value false followers script_firsts start B told_script
+
+  pub fresh : (n : ℕ) (a : model.Actor) → get_elem? (views_of start.actors.items) n ≡ maybe.some a → HoldsNothing a
+  fresh = holds_none log_seen data_seen stands about about.script.value false followers script_firsts start B
+
+-- THE RULE HOLDS of a table that is told a script.
+pub opens_ok : {L D R : Type 0} (log_seen : L → Seen) (log_gives : L → Call → L → Type 0) (data_seen : D → Seen)
+    (data_gives : D → Call → D → Type 0) (stands : R → List Given → Type 0) (about : About L D)
+    (fixed : about.live ≡ None) (followers : List (Following R)) (many : about.followers ≡ length followers)
+    (start : Beginning L D R) (B : BeginsWith log_seen data_seen stands about.opened.value about.script.value
+    about.log_only about.archive followers start)
+    → AreLists start.parts.lists → (beside : Beside) → about.own_writes ≡ is_some beside.own
+    → HasItsWork (run_log_side log_seen data_seen B.run) start.parts.log beside.own (views_of start.actors.items)
+    → AllStand beside.own (views_of start.actors.items) (first_view about).seats
+    → (ws : List ℕ) (xs : List (Slot L D)) → ws ≡ start.parts.words.words
+    → ◌≡◌ {A = List (Slot L D)} xs (slots_of start.parts beside)
+    → Ruled log_seen log_gives data_seen data_gives about (opening ws xs (first_view about))
+opens_ok log_seen log_gives data_seen data_gives stands about fixed followers many start B =
+    opens_any log_seen log_gives data_seen data_gives stands about about.script.value false followers
+    (script_firsts log_seen data_seen stands about fixed followers many start B) start B
+    (told_script log_seen data_seen stands about fixed followers many start B)

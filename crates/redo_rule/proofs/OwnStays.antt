@@ -49,6 +49,14 @@ put_behind (x ∷ xs) k os (suc n) a far =
     let r = put_behind xs k os n a (omega arith) in
     (r.0, ap (λ (l : List model.Actor). model.User x.user ∷ l) r.1)
 
+-- the work is as it was once such an actor has changed, and the log part hasn't
+pub work_beside : (D : LogSide) (p : D.Part) (own : Option OwnSide) (actors : List model.Actor) (n : ℕ)
+    (b : model.Actor) → SitsAs own None n → HasItsWork D p own actors → HasItsWork D p own (set actors n b)
+work_beside D p None actors n b sits W = tt
+work_beside D p (Some side) actors n b far W =
+    let put = put_behind side.users side.work W.others n b far in
+    record { others = put.0; are = ap (λ (x : List model.Actor). set x n b) W.are ∙ put.1; errands = W.errands }
+
 module _ (D : LogSide) where
   writes_hold : (p : D.Part) (w : WriterStep) (f : FlusherStep) → WritesAt D p w f
       → (flusher_hand f ≡ Some 0) ⊎ (writer_hand w ≡ Some 0)

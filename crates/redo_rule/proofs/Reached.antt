@@ -19,7 +19,7 @@ use Rattle.redo_disk.specs.{Call}
 use Rattle.redo_disk.specs.Seen.{Seen}
 use Rattle.redo_drive.specs.Failures.{HasFailedBy}
 use Rattle.redo_logdev.specs.Part as log
-use Rattle.redo_drive.specs.Leaving.{LeavesWith}
+use Rattle.redo_drive.specs.Leaving.{LeavesAs}
 use Rattle.redo_drive.specs.Playing.{RunOf, run_data_side, run_log_side}
 use Rattle.redo_drive.specs.Running.{RunsWith}
 use Rattle.redo_drive.specs.Turning.{core_of}
@@ -74,10 +74,12 @@ module _ {L D : Type 0} {archive : Bool} (log_seen : L → Seen) (data_seen : D 
       (⊎_elim (λ h. inl h) (⊎_elim (λ h. inr (inl h)) (λ lost. inr (inr (is_archived m.failed lost, lost))))
       (has_marks.2.failure_has_cause.cause (subst (λ (n : ℕ). 0 < n) same some)))
 
-module _ {L D R : Type 0} (log_seen : L → Seen) (log_gives : L → Call → L → Type 0) (data_seen : D → Seen) (data_gives
+module _ {L D R : Type 0} {live : Bool} (log_seen : L → Seen) (log_gives : L → Call → L → Type 0) (data_seen : D → Seen)
+    (data_gives
     : D → Call → D → Type 0) (stands : R → List Given → Type 0) (opened : Opened L D) (script : List ScriptLine)
-    (log_only archive : Bool) (followers : ℕ) (starts actors : List (Actor R)) (closed : Closed L D) (by : LeavesWith
-    log_seen log_gives data_seen data_gives stands opened script log_only archive followers starts actors closed) where
+    (log_only archive : Bool) (followers : ℕ) (starts actors : List (Actor R)) (closed : Closed L D) (by : LeavesAs
+    log_seen log_gives data_seen data_gives stands opened script live log_only archive followers starts actors
+    closed) where
   pub reaches_all : ReachesAll (views_of actors) closed
   reaches_all = record {
     marks = λ i a at. subst (λ (k : Marks). HasMarksWithin k a) (sym by.marks) (within log_seen data_seen by.run

@@ -4,7 +4,9 @@ pub mod Cutting
 pub mod Ending
 pub mod Failing
 pub mod Gathering
+pub mod HandIn
 pub mod Handing
+pub mod Lively
 pub mod Mine
 pub mod Ops
 pub mod OwnSide

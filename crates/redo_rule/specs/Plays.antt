@@ -25,6 +25,7 @@ use Rattle.redo_drive.specs.Playing.{DataReady, HasWholePages, LogReady, RunOf, 
 use Rattle.redo_drive.specs.Running.{groups_of, RunsWith}
 use Rattle.redo_drive.specs.Turning.{core_of}
 use Rattle.redo_drive.specs.Receiving.{handed_by, MarkFits}
+use Rattle.redo_drive.specs.Reserved.{HasGroups}
 use Rattle.redo_drive.specs.declared.device.Device.TheVariants.{Data, Log}
 use Rattle.redo_drive.specs.declared.parts.Parts.{Parts}
 use Rattle.model_core.specs.Hands.{GivesFailed, hand, IsFreeToCheck}
@@ -126,6 +127,9 @@ module _ {L D : Type 0} where
     pub give : next a ≡ op.GiveDevice → AnswerFits a (answer.Taken None) × MarkFits a (answer.Taken None)
     -- a user that has ended well has all its commits answered
     pub done : (u : UserState) → a ≡ model.User u → u.step ≡ user_step.Done → u.k ≡ length u.lines
+    -- and has reserved no more groups; and each group that a user has reserved ends at an sn
+    pub no_more : (u : UserState) → a ≡ model.User u → u.step ≡ user_step.Done → length u.starts ≡ u.k
+    pub groups : HasGroups a
 
   -- a seat carries the slot that its actor holds
   abbrev pub Carries : Option ℕ → Me (Slot L D) (View L D) → Type 0

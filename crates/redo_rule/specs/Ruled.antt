@@ -1,12 +1,13 @@
 -- The rule of the table: the invariant of a run, over the words, both parts, the lists and the actors' states, and where
 -- each of these is: in a home slot, or with the seat that holds it.
-use Rattle.std.specs.Prelude.{Bool, IfSome, List, None, Some, [], cond, false, is_some, length, slice_index, suc, true, zero, ℕ, ◌+◌, ◌∷◌, ◌≡◌, ◌≢◌}
+use Rattle.std.specs.Prelude.{Bool, IfSome, List, None, Option, Some, [], cond, false, is_some, length, slice_index, suc, true, zero, ℕ, ◌+◌, ◌∷◌, ◌≡◌, ◌≢◌}
 use lib.ListN.{get_elem?}
 use mathlib.Core.Option.{some}
 use Rattle.atomic_table.specs.Table.{State}
 use Rattle.model_own.specs.ErrandFits.{has_work}
 use Rattle.model_own.specs.declared.errand.ErrandStep.TheVariants as errand_step
 use Rattle.model_core.specs.Actors as model
+use Rattle.model_script.specs.declared.script.ScriptLine.{ScriptLine}
 use Rattle.model_theorem.specs.{IsStart}
 use Rattle.model_store.specs.Reading.{Reading}
 use Rattle.redo_disk.specs.{Call}
@@ -15,6 +16,7 @@ use Rattle.redo_drive.specs.Beginning.{HaveBegun, IsRunWith}
 use Rattle.redo_drive.specs.Startable.{HasReading}
 use Rattle.redo_drive.specs.Calls.{CallsOn}
 use Rattle.redo_drive.specs.Lists.{AreLists, listing_at}
+use Rattle.redo_drive.specs.LiveActors.{live_actors}
 use Rattle.redo_drive.specs.Playing.{RunOf, run_log_side}
 use Rattle.redo_drive.specs.Running.{RunsWith}
 use Rattle.redo_drive.specs.Setups.{seated_actors}
@@ -22,12 +24,14 @@ use Rattle.redo_drive.specs.declared.parts.Parts.{Parts}
 use Rattle.redo_words.specs.{shape_layout}
 use Rattle.model_core.specs.Hands.{GivesFailed, hand, IsFreeToCheck}
 use Rattle.redo_rule.specs.Handing.{HaveHandedOn, HaveLoaded, nothing}
+use Rattle.redo_rule.specs.Lively.{HasRoom}
 use Rattle.redo_rule.specs.OwnSide.{Beside, desk_with, HasItsWork, SitsAs}
 use Rattle.redo_rule.specs.Places.{HasTurn, turn_word}
 use Rattle.redo_rule.specs.declared.law.About.{About}
 use Rattle.redo_rule.specs.declared.law.Errand.{Errand}
 use Rattle.redo_rule.specs.declared.law.Heard.{Heard}
 use Rattle.redo_rule.specs.declared.law.Keeping.{Keeping}
+use Rattle.redo_rule.specs.declared.law.Live.{Live}
 use Rattle.redo_rule.specs.declared.law.Numbered.{Numbered}
 use Rattle.redo_rule.specs.declared.law.Slot.{Slot}
 use Rattle.redo_rule.specs.declared.law.Slot.TheVariants as slot
@@ -68,10 +72,15 @@ module _ {L D : Type 0} where
   slot_content parts beside zero = slot.Log (desk_with parts.log beside)
   slot_content parts beside (suc i) = slot.Pages (listing_at parts.lists.lists i)
 
-  -- the actors of a table's run as it begins
-  abbrev pub starts_about : About L D → List model.Actor
-  starts_about about = seated_actors about.opened.value.shape about.script.value about.opened.value.start about.log_only
+  -- the actors of a table's run as it begins: those of the script that the table is told, or of a live run
+  abbrev pub starts_with : About L D → Option Live → List model.Actor
+  starts_with about None = seated_actors about.opened.value.shape about.script.value about.opened.value.start
+      about.log_only about.archive about.followers
+  starts_with about (Some live) = live_actors about.opened.value.shape live.users about.opened.value.start about.log_only
       about.archive about.followers
+
+  abbrev pub starts_about : About L D → List model.Actor
+  starts_about about = starts_with about about.live
 
   -- who sits in the first seat
   abbrev pub first_seats : About L D → List Numbered
@@ -105,9 +114,14 @@ module _ {L D : Type 0} where
     pub data_part : (d : Keeping D) → v.data_part ≡ Some d → (keeper ≡ id) × (d.part ≡ parts.store) × (out ≡ d.out)
 
 module _ {L D : Type 0} (log_seen : L → Seen) (data_seen : D → Seen) where
-  -- the run is that of the script on the opened store, whose devices held it if they told so
+  -- The run is that of the script on the opened store, whose devices held it if they told so. The script is that which the
+  -- table was told, and of a live run what was handed in, for which there is room.
   pub record IsRunAbout (about : About L D) (run : RunOf L D) : Type 0 where
-    pub is_run : IsRunWith about.opened.value about.script.value about.log_only about.archive about.followers run
+    pub script : List ScriptLine
+    pub fixed : about.live ≡ None → script ≡ about.script.value
+    pub is_run : IsRunWith about.opened.value script (is_some about.live) about.log_only about.archive about.followers run
+    pub room : (live : Live) → about.live ≡ Some live
+        → HasRoom live about.opened.value.shape script (length (starts_about about)) run.setup
     pub begun : (reading : Reading) → HasReading reading about.opened.value
         → IfSome (log_seen about.opened.value.log.dev).tells (λ log_disk. IfSome (data_seen about.opened.value.store.dev).tells (λ data_disk.
         IsStart reading about.script.value log_disk data_disk → HaveBegun log_seen data_seen run))

@@ -131,12 +131,22 @@ pub struct View<L: Sectors, D: Sectors> {
     pub data_part: Option<Keeping<D>>,
 }
 
-/// What a table is told once: the opened store, the script, whether the run is archived, how many followers there are, and
-/// whether users write for themselves. The actors as they begin follow from that.
+/// Of a live run, into which lines are handed while it goes on: how many users there are, and of how many bytes each one's
+/// groups may be together.
+#[derive(Drop)]
+pub struct Live {
+    pub users: u32,
+    pub quota: u64,
+}
+
+/// What a table is told once: the opened store, the script, whether the run is a live one, whether it is archived, how many
+/// followers there are, and whether users write for themselves. The actors as they begin follow from that. A live run begins
+/// with no line of its users.
 #[derive(Drop)]
 pub struct About<L: Sectors, D: Sectors> {
     pub opened: Snapshot<Opened<L, D>>,
     pub script: Snapshot<Script>,
+    pub live: Option<Live>,
     pub log_only: bool,
     pub archive: bool,
     pub followers: u64,

@@ -13,6 +13,7 @@ mod appending;
 mod batch;
 mod closing;
 mod device;
+mod handing;
 mod law;
 mod laying;
 mod listing;
@@ -25,9 +26,10 @@ mod steps;
 
 pub use appending::append;
 pub use closing::{Left, close_table};
+pub use handing::hand_in;
 pub use law::{
     About, Block, Board, DATA_SLOT, Desk, Errand, Groups, Heard, Keeping, LOG_SLOT, LOG_TURN, Law,
-    Numbered, Ring, SLOTS, Seat, Slot, View, Viewed,
+    Live, Numbered, Ring, SLOTS, Seat, Slot, View, Viewed,
 };
 pub use laying::{lay_out, make_board, parts_in};
 pub use listing::{list_slot, list_turn};

@@ -107,7 +107,7 @@ fn length_of(alloc: Global, shape: &Shape, line: &ScriptLine) -> Result<u64, Unf
 
 /// Judges a line, and says how long the text of its group is.
 #[tactic(auto, unfolding(model_script::specs::Fit::line_misfit))]
-fn judge_line(alloc: Global, shape: &Shape, line: &ScriptLine) -> Result<u64, Unfit>
+pub fn judge_line(alloc: Global, shape: &Shape, line: &ScriptLine) -> Result<u64, Unfit>
     requires limits { IsWithinLimits shape.now }
     ensures length { IfOk result (λ len. len ≡ group_length (group_of shape.now.space line.now)) }
     ensures fits { OnOk result (line_misfit shape.now line.now ≡ None) }

@@ -18,7 +18,7 @@ mod unfit;
 
 pub use draws::Draws;
 pub use fault::ScriptFault;
-pub use fit::judge;
+pub use fit::{judge, judge_line};
 pub use generator::{generate, generate_lines};
 pub use group::group_of;
 pub use laws::{

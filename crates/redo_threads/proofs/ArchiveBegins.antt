@@ -37,6 +37,7 @@ use Rattle.redo_rule.proofs.Gathered.{there}
 use Rattle.redo_rule.specs.Closing.{TellsLoss}
 use Rattle.redo_rule.specs.Handing.{nothing}
 use Rattle.redo_rule.specs.Mine.{heard_of}
+use Rattle.redo_rule.specs.Ruled.{starts_with}
 use Rattle.redo_rule.specs.Sharing.{AreFresh}
 use Rattle.redo_rule.specs.declared.law.About.{About}
 use Rattle.redo_rule.specs.declared.law.Heard.{Heard}
@@ -153,7 +154,7 @@ owner seen gives about before v (player.Plain (own.Archiver r)) (Some part) keep
 owner seen gives about before v _ _ keeps = absurd keeps
 
 module _ {L D A F : Type 0} (seen : A → Seen) (shared : Shared L D F) (players : List (Player F))
-    (B : BeginsWithReaders shared players) where
+    (B : BeginsWithReaders shared players) (fixed : shared.board.shared.key.live ≡ None) where
   abbrev key : About L D
   key = shared.board.shared.key
 
@@ -165,7 +166,8 @@ module _ {L D A F : Type 0} (seen : A → Seen) (shared : Shared L D F) (players
 
   are : views_of cs ≡ seated_actors key.opened.value.shape key.script.value start key.log_only key.archive
       (length B.followers)
-  are = sym B.actors_are ∙ ap (seated_actors key.opened.value.shape key.script.value start key.log_only key.archive) B.many
+  are = sym B.actors_are ∙ ap (starts_with key) fixed
+      ∙ ap (seated_actors key.opened.value.shape key.script.value start key.log_only key.archive) B.many
 
   is_new : (i : ℕ) (r : ReaderState) → get_elem? players i ≡ maybe.some (player.Plain (own.Archiver r))
       → ◌≡◌ {A = ReaderState} r (new_reader 0 start)
@@ -189,6 +191,7 @@ module _ {L D A F : Type 0} (seen : A → Seen) (shared : Shared L D F) (players
         let low : start ≤ lsn_of (sn_of start + n) = omega arith in
         record {
           told = told;
+          fixed = fixed;
           may = may;
           same = record {
             shape = refl;

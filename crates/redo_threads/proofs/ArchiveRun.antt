@@ -1,5 +1,5 @@
 -- The archive of a run in threads, from its begin to what the run leaves.
-use Rattle.std.proofs.Common.{Bool, List, Option, Some, ap, is_some, length, map, subst, sym, true, ◌∙◌, ◌≡◌}
+use Rattle.std.proofs.Common.{Bool, List, None, Option, Some, ap, is_some, length, map, subst, sym, true, ◌∙◌, ◌≡◌}
 use Rattle.atomic_table.specs.Seated.{TableId}
 use Rattle.model_core.specs.{Given}
 use Rattle.model_own.specs.OwnWrites.{LogWork}
@@ -28,9 +28,9 @@ use Rattle.redo_threads.specs.Working.{KeepOn}
 use Rattle.redo_threads.specs.declared.crew.Crew.{Crew}
 
 module _ {L D A F : Type 0} {gives : A → Call → A → Type 0} (seen : A → Seen) (shared : Shared L D F)
-    (players : List (Player F)) (B : BeginsWithReaders shared players) (stands : F → List Given → Type 0)
-    (table : TableId) (x y : Crew L D F)
-    (is : x.players.items ≡ players) (many : length x.seats.items ≡ length x.players.items) (keep : KeepOn stands table x y)
+    (players : List (Player F)) (B : BeginsWithReaders shared players)
+    (fixed : shared.board.shared.key.live ≡ None) (stands : F → List Given → Type 0) (table : TableId)
+    (x y : Crew L D F) (is : x.players.items ≡ players) (many : length x.seats.items ≡ length x.players.items) (keep : KeepOn stands table x y)
     (fresh : AreFresh (Some shared.board.shared.key) x.seats.items) (part : Part A)
     (new : IsNewArchive seen (opened_of shared) (shared_script shared) part)
     (may : MayBegin (opened_of shared) (shared_script shared) shared.board.shared.key.log_only)
@@ -41,7 +41,7 @@ module _ {L D A F : Type 0} {gives : A → Call → A → Type 0} (seen : A → 
 
   o : Owner seen gives key part st.seat.me.0 st.then later
   o = owner seen gives key part st.seat.me.0 st.then later
-      (st.keeps key part (may_be seen shared players B gives part new may x is fresh archived))
+      (st.keeps key part (may_be seen shared players B fixed gives part new may x is fresh archived))
 
   lost_is : (lost : Option DevError) → lost ≡ lost_of later → lost ≡ o.part.failed
   lost_is lost told = told ∙ ap (λ (a : Option (Part A)). lost_of a) o.archive_is
@@ -50,8 +50,8 @@ module _ {L D A F : Type 0} {gives : A → Call → A → Type 0} (seen : A → 
   pub tells : (lost : Option DevError) → lost ≡ lost_of later
       → TellsLoss key.archive (views_of (map actor_of y.players.items)) lost
   tells lost told = subst (λ (b : Bool). TellsLoss b (views_of (map actor_of y.players.items)) lost) (sym archived)
-      (tells_loss seen shared players B stands table x y is many keep st.place st.then st.then_at o.state o.player_is
-      o.archives.pace.kind lost (o.archives.pace.lost ∙ ap append_code (sym (lost_is lost told))))
+      (tells_loss seen shared players B fixed stands table x y is many keep st.place st.then st.then_at o.state
+      o.player_is o.archives.pace.kind lost (o.archives.pace.lost ∙ ap append_code (sym (lost_is lost told))))
 
   -- SO THE RUN LEAVES ITS ARCHIVE.
   module _ (log_seen : L → Seen) (log_gives : L → Call → L → Type 0) (data_seen : D → Seen)
@@ -65,10 +65,10 @@ module _ {L D A F : Type 0} {gives : A → Call → A → Type 0} (seen : A → 
         (shared_script shared) closed (views_of actors) (Some part) a) (sym o.archive_is)
         (left_archived log_seen log_gives data_seen data_gives seen stands key (crew work players) actors y.seats.items
         closed left st.place st.seat st.sits
-        (its_place seen shared players B stands table x y is many keep st.place st.then st.then_at o.state o.player_is
-        o.archives.pace.kind work works actors actors_are) o.state
-        (stands_there seen shared players B stands table x y is many keep st.place st.then st.then_at o.state o.player_is
-        o.archives.pace.kind work works actors actors_are)
-        (only_there seen shared players B stands table x y is many keep st.place st.then st.then_at o.state o.player_is
-        o.archives.pace.kind work works actors actors_are) part o.part o.archives new.start
+        (its_place seen shared players B fixed stands table x y is many keep st.place st.then st.then_at o.state
+        o.player_is o.archives.pace.kind work works actors actors_are) o.state
+        (stands_there seen shared players B fixed stands table x y is many keep st.place st.then st.then_at o.state
+        o.player_is o.archives.pace.kind work works actors actors_are)
+        (only_there seen shared players B fixed stands table x y is many keep st.place st.then st.then_at o.state
+        o.player_is o.archives.pace.kind work works actors actors_are) part o.part o.archives new.start
         (sym (lost_is closed.lost told)))

@@ -96,6 +96,7 @@ module _ {L D A F : Type 0} (log_seen : L → Seen) (data_seen : D → Seen) (se
         (λ rests. let is : ◌≡◌ {A = ReaderState} r x.0 = one_reader r x.0 (sym rests.1 ∙ ap view_of x.1) in
         subst (λ (z : ReaderState). Archives seen gives about before t.me.0 z part) is (record {
           told = same.about ∙ S.told;
+          fixed = S.fixed;
           may = S.may;
           same = S.same;
           flushed = S.flushed;

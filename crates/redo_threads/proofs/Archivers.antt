@@ -33,6 +33,7 @@ use Rattle.redo_drive.proofs.CallsOn.{calls_then}
 use Rattle.redo_drive.specs.Archiving.{Appends, IsSameArchive}
 use Rattle.redo_drive.specs.Lists.{lists_of}
 use Rattle.redo_rule.proofs.Loading.{Loads, reader_loads}
+use Rattle.redo_rule.proofs.Told.{fixed_run}
 use Rattle.redo_rule.specs.Handing.{appended_at, appended_by}
 use Rattle.redo_rule.specs.Mine.{HasPlayed, heard_of}
 use Rattle.redo_rule.specs.declared.law.About.{About}
@@ -187,7 +188,8 @@ module _ {L D A : Type 0} {gives : A → Call → A → Type 0} (log_seen : L �
         let s = played.shown in
         subst (λ (z : About L D). slice_index ws 3 ≤ end_about z) its_about
         (flushed_within log_seen data_seen s.run s.old s.actors s.runs s.about.opened.value s.about.script.value
-        s.about.log_only s.about.followers s.is_about.is_run)
+        s.about.log_only s.about.followers
+        (fixed_run log_seen data_seen s.about s.run (ap (λ (z : About L D). z.live) its_about ∙ S.fixed) s.is_about))
 
     said : ◌≡◌ {A = Answer} played.answer (answer_of played.shown.old.words.layout (lists_of played.shown.old.lists)
         (is_some played.shown.old.log.failed) played.shown.turn.code played.shown.new.log.marks.stable ws (next (model.Reader r)))
@@ -230,6 +232,7 @@ module _ {L D A : Type 0} {gives : A → Call → A → Type 0} (log_seen : L �
     pub archive_turned : Archives seen gives about before w x part
     archive_turned = record {
       told = same_about ∙ S.told;
+      fixed = S.fixed;
       may = S.may;
       same = S.same;
       flushed = its_flushed.most;
@@ -294,6 +297,7 @@ module _ {L D A : Type 0} {gives : A → Call → A → Type 0} (log_seen : L �
         let e = mark_stays in
         record {
           told = same_about ∙ S.told;
+          fixed = S.fixed;
           may = S.may;
           same = still_same;
           flushed = S.flushed;

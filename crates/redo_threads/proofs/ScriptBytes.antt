@@ -142,11 +142,11 @@ others_none false others P =
 module _ {L D : Type 0} {archive : Bool} (log_seen : L → Seen) (data_seen : D → Seen) (run : RunOf L D) (parts : Parts L D)
     (actors : List model.Actor) (R : RunsWith log_seen data_seen run archive parts actors) (opened : Opened L D)
     (script : List ScriptLine) (log_only : Bool) (followers : ℕ)
-    (is_run : IsRunWith opened script log_only archive followers run) where
+    (is_run : IsRunWith opened script false log_only archive followers run) where
   abbrev c : Setup
   c = run.setup
 
-  abbrev S : AreSeated c actors
+  abbrev S : AreSeated run.live c actors
   S = R.seated
 
   user_lines : (i : ℕ) (u : UserState) → get_elem? S.users i ≡ maybe.some u

@@ -39,7 +39,9 @@ module _ {L D F : Type 0} {archive : Bool} (log_seen : L → Seen) (log_gives : 
     are = left.from.runs.seated.are;
     page_actors = subst (λ (b : Bool). ArePageActors b left.from.runs.seated.others) left.is_run.log_only_is left.from.runs.seated.page_actors;
     ascending = left.from.runs.seated.ascending;
-    has_lines = λ i u at. let h = left.from.runs.seated.have_lines i u at in let e = ap length (its_lines i u at) in omega arith;
+    has_lines = λ i u at.
+        let h = left.from.runs.seated.have_lines left.is_run.live_is i u at in
+        let e = ap length (its_lines i u at) in omega arith;
     lines = λ i u at. ap length (its_lines i u at) ∙ left.is_run.of_script.count u.user;
     all = λ user some. left.from.runs.seated.all user (let e = left.is_run.of_script.count user in omega arith);
   }

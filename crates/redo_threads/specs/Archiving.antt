@@ -60,6 +60,8 @@ end_about about = script_end about.opened.value.shape about.opened.value.start a
 pub record Archives {L D A : Type 0} (seen : A → Seen) (gives : A → Call → A → Type 0) (about : About L D)
     (before : Part A) (v : View L D) (r : ReaderState) (part : Part A) : Type 0 where
   pub told : v.about ≡ Some about
+  -- the run is that of the script that its table was told
+  pub fixed : about.live ≡ None
   pub may : MayBegin about.opened.value about.script.value about.log_only
   pub same : IsSameArchive seen gives before part
   pub flushed : ℕ

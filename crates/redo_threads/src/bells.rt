@@ -94,7 +94,8 @@ impl Bell {
     }
 }
 
-/// How many users run, whether each that is busy has a processor, and a bell for each call.
+/// How many users run, whether each that is busy has a processor, and a bell for each call. In a live run users go on once they
+/// have ended, and are counted as one until the run is told to end.
 ///
 /// No ring is lost. Who sleeps is counted first, then reads how often the bell has rung, and then takes its step once more, which
 /// looks at all that it waits for. It sleeps only if that idled and the bell hasn't rung since. A cleaner that rests looks then
@@ -111,6 +112,7 @@ impl Bell {
 #[derive(Drop)]
 pub(crate) struct Bells {
     running: AtomicU64,
+    is_live: bool,
     is_roomy: bool,
     // whether users write for themselves
     own_writes: bool,
@@ -128,12 +130,11 @@ pub(crate) struct Bells {
 }
 
 impl Bells {
-    /// Of a run of so many users, which write for themselves or don't. It is roomy where these, and the writer and the flusher,
-    /// if they play, have a processor each.
-    pub(crate) fn new(users: u64, own_writes: bool, processors: u64) -> Bells {
+    fn of(users: u64, running: u64, is_live: bool, own_writes: bool, processors: u64) -> Bells {
         let others = if own_writes { 0 } else { 2 };
         Bells {
-            running: AtomicU64::new(users),
+            running: AtomicU64::new(running),
+            is_live,
             is_roomy: users.saturating_add(others) <= processors,
             own_writes,
             has_stand_in: AtomicBool::new(false),
@@ -147,6 +148,17 @@ impl Bells {
             room: Bell::new(),
             any: Bell::new(),
         }
+    }
+
+    /// Of a run of so many users, which write for themselves or don't. It is roomy where these, and the writer and the flusher,
+    /// if they play, have a processor each.
+    pub(crate) fn new(users: u64, own_writes: bool, processors: u64) -> Bells {
+        Bells::of(users, users, false, own_writes, processors)
+    }
+
+    /// Of a live run of so many users.
+    pub(crate) fn live(users: u64, processors: u64) -> Bells {
+        Bells::of(users, 1, true, false, processors)
     }
 
     fn bell(&self, call: Call) -> &Bell {
@@ -188,11 +200,17 @@ impl Bells {
         self.space.rings.load(Ordering::SeqCst)
     }
 
-    /// A user has ended. The last one wakes all.
+    /// A user has ended. The last one wakes all. In a live run it may go on.
     pub(crate) fn user_ended(&self) {
-        if self.running.fetch_sub(1, Ordering::SeqCst) == 1 {
+        if !self.is_live && self.running.fetch_sub(1, Ordering::SeqCst) == 1 {
             self.ring_all();
         }
+    }
+
+    /// No user goes on any more: all are woken.
+    pub(crate) fn end(&self) {
+        self.running.store(0, Ordering::SeqCst);
+        self.ring_all();
     }
 
     /// Counts one more that is about to sleep, and tells how often the bell has rung. Who waits for space wakes those that free it.

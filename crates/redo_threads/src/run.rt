@@ -10,7 +10,7 @@ ghost use Rattle.redo_drive.specs.Leaving.{LeavesWith};
 ghost use Rattle.redo_drive.specs.Startable.{IsNewArchive};
 ghost use Rattle.redo_drive.specs.Views.{views_of};
 ghost use Rattle.redo_ownrule.specs.Players.{crew};
-ghost use Rattle.redo_ownrule.specs.Sharing.{IsUnseated, opened_of, own_of, shared_script};
+ghost use Rattle.redo_ownrule.specs.Sharing.{IsFixed, IsUnseated, opened_of, own_of, shared_script};
 ghost use Rattle.redo_ownrule.specs.declared.player.Player.{Player as ThePlayer};
 ghost use Rattle.redo_rule.specs.Closing.{IsOwedRun};
 ghost use Rattle.redo_rule.specs.Failing.{CodeHasCause};
@@ -57,7 +57,7 @@ fn write_for_themselves<F: Receiver>(players: &[Player<F>]) -> bool {
 }
 
 /// How many processors threads may use, at least.
-fn processors<R: Threads>(rt: &R) -> u64 {
+pub(crate) fn processors<R: Threads>(rt: &R) -> u64 {
     match available_parallelism(rt) {
         Ok(count) => count.get() as u64,
         Err(_) => 1,
@@ -152,10 +152,11 @@ fn lost_by<A: Sectors>(archive: &Option<ArchPart<A>>) -> Option<DevError>
     }
 }
 
-/// Plays the players of a store that they share, each in a thread of its own where one can be started, until each user has ended
-/// and nobody else holds a turn or a tail; the archiver among them, if the run is archived, with this archive, in the caller's
-/// thread, which the archive's device never leaves. It takes no memory. With what the run leaves it gives its actors back, with
-/// the writer and the flusher as far as users that wrote for themselves have brought them, and the archive.
+/// Plays the players of a store that they share for the run of a script, each in a thread of its own where one can be started,
+/// until each user has ended and nobody else holds a turn or a tail; the archiver among them, if the run is archived, with this
+/// archive, in the caller's thread, which the archive's device never leaves. It takes no memory. With what the run leaves it
+/// gives its actors back, with the writer and the flusher as far as users that wrote for themselves have brought them, and the
+/// archive.
 pub fn run_threads<
     R: Threads + Wait + Sync,
     L: Sectors + Send,
@@ -171,6 +172,7 @@ pub fn run_threads<
     gate: &G,
 ) -> (Closed<L, D>, Vec<Actor<F>>, Option<ArchPart<A>>)
     requires unseated { IsUnseated shared players.items }
+    requires fixed { IsFixed shared }
     requires readers { BeginsWithReaders shared players.items }
     requires is_archived { shared.board.shared.key.archive ≡ is_some archive }
     requires archive { IfSome archive (IsNewArchive A.seen (opened_of shared) (shared_script shared)) }

@@ -1,10 +1,10 @@
 -- Each line of a user has bytes, and its records write within a page's user bytes.
-use Rattle.std.proofs.Common.{Bool, List, [], arith, length, refl, suc, zero, ℕ, ◌<◌, ◌∷◌}
+use Rattle.std.proofs.Common.{Bool, List, [], arith, length, refl, suc, zero, ℕ, ◌++◌, ◌<◌, ◌∷◌}
 use Rattle.std.specs.List.{AllByRecursion}
 use Rattle.model_base.specs.{user_length}
 use Rattle.model_base.specs.declared.shape.Shape.{Shape}
 use Rattle.model_core.proofs.Collected.{group_has_text}
-use Rattle.model_core.specs.{line_at}
+use Rattle.model_core.specs.{Line, line_at}
 use Rattle.model_log.specs.{GroupFits, RecordFits}
 use Rattle.model_log.specs.declared.rec.Rec.{Rec}
 use Rattle.model_log.specs.declared.rec.Rec.TheVariants.{Init, Num, Text}
@@ -17,6 +17,16 @@ pub some_texts : (shape : Shape) (log_only : Bool) (lines : List (ℕ × List Re
 some_texts shape log_only [] are j h = absurd (omega arith)
 some_texts shape log_only (x ∷ xs) are zero h = group_has_text x.1 (are 0 x refl).is_group
 some_texts shape log_only (x ∷ xs) are (suc j) h = some_texts shape log_only xs (λ i line e. are (suc i) line e) j (omega arith)
+
+-- with one line more, that has bytes
+pub some_with : (lines : List Line) (line : Line) → ((j : ℕ) → j < length lines → 0 < length (line_at lines j).bytes)
+    → 0 < length line.bytes → (j : ℕ) → j < length (lines ++ line ∷ [])
+    → 0 < length (line_at (lines ++ line ∷ []) j).bytes
+some_with [] line all some zero h = some
+some_with [] line all some (suc j) h = absurd (omega arith)
+some_with (x ∷ xs) line all some zero h = all zero (omega arith)
+some_with (x ∷ xs) line all some (suc j) h =
+    some_with xs line (λ i lt. all (suc i) (omega arith)) some j (omega arith)
 
 record_writes : (shape : Shape) (rec : Rec) → RecordFits shape rec → WritesWithin (user_length shape) rec
 record_writes shape (Num width space page offset value) fits = let a = fits.2.after_header in let b = fits.2.before_trailer in (a, omega arith)

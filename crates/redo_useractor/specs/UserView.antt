@@ -42,6 +42,11 @@ pub record HasGroup (u : Inside) : Type 0 where
   pub small : group_end (user_view u) < end_limit
   pub one : vec_len u.starts ≡ u.k + 1
 
+-- no line is left, and no group is in hand
+pub record AfterAll (u : Inside) : Type 0 where
+  pub all : u.k ≡ length u.lines.items
+  pub none : vec_len u.starts ≡ u.k
+
 -- it is at one of the group's pages
 abbrev pub IsAtPage : Inside → Type 0
 IsAtPage u = u.page < length (changes (user_view u))
@@ -73,7 +78,7 @@ IsAt u user_step.LoadFrame = HasGroup u × IsAtPage u × IsAtWord u
 IsAt u user_step.StoreFrame = HasGroup u × IsAtPage u × IsAtWord u
 IsAt u user_step.StoreClosedLink = HasGroup u × (0 < length (changes (user_view u)))
 IsAt u user_step.AwaitMark = HasGroup u
-IsAt u user_step.Done = Unit {0}
+IsAt u user_step.Done = AfterAll u
 IsAt u user_step.Failed = Unit {0}
 IsAt u _ = HasGroup u × IsAtPage u
 

@@ -1,9 +1,10 @@
 // A user as a run begins.
-ghost use Rattle.std.specs.Prelude.{◌≡◌, IfOk};
+ghost use Rattle.std.specs.Prelude.{[], ◌≡◌, if◌then◌else◌, IfErr, IfOk};
 ghost use Rattle.model_base.specs.{IsWithinLimits};
-ghost use Rattle.model_core.specs.{line_of, new_user};
+ghost use Rattle.model_core.specs.{collected, line_of, new_user};
 ghost use Rattle.model_log.specs.{run_layout};
 ghost use Rattle.redo_useractor.specs.Lines.{AreUserLines, IsUserLine};
+ghost use Rattle.redo_useractor.specs.Places.{page_if_touched};
 ghost use Rattle.redo_useractor.specs.Program.{program_lines};
 
 use crate::actor::{Marks, UserActor};
@@ -18,23 +19,41 @@ use redo_lsn::{NoMemory, run_layout};
 use redo_record::encode;
 use std::alloc::Global;
 
-/// A line, with the text of its group and the pages that it is on.
-fn line_of(
+/// The pages that a group of a store is on, ascending; with the log alone none of them counts.
+fn pages_of(
+    alloc: Global,
+    shape: &Shape,
+    log_only: bool,
+    group: &Group,
+) -> Result<Vec<u32>, NoMemory>
+    ensures { IfOk result (λ pages. pages.items ≡ (if log_only then [] else collected (page_if_touched group.now) shape.now.pages)) }
+{
+    if log_only {
+        return Ok(Vec::new(alloc));
+    }
+    touched_pages(alloc, shape.pages, group.0.as_slice())
+}
+
+/// A line, with the text of its group and the pages that it is on. Where memory runs out the group comes back.
+pub(crate) fn line_of(
     alloc: Global,
     shape: &Shape,
     log_only: bool,
     mode: u32,
     group: Group,
-) -> Result<UserLine, NoMemory>
+) -> Result<UserLine, (NoMemory, Group)>
     requires limits { IsWithinLimits shape.now }
     requires line { IsUserLine shape.now (mode, group) }
-    ensures { IfOk result (λ line. line ≡ line_of log_only shape.now mode group) }
+    ensures ok { IfOk result (λ line. line ≡ line_of log_only shape.now mode group) }
+    ensures err { IfErr result (λ back. back.1 ≡ group) }
 {
-    let text = encode(alloc, &group)?;
-    let pages = if log_only {
-        Vec::new(alloc)
-    } else {
-        touched_pages(alloc, shape.pages, group.0.as_slice())?
+    let text = match encode(alloc, &group) {
+        Ok(text) => text,
+        Err(error) => return Err((error, group)),
+    };
+    let pages = match pages_of(alloc, shape, log_only, &group) {
+        Ok(pages) => pages,
+        Err(error) => return Err((error, group)),
     };
     Ok(UserLine {
         shape: *shape,
@@ -59,7 +78,10 @@ fn lines_of(
 {
     let mut made = Vec::with_capacity(alloc, lines.len())?;
     for (mode, group) in lines {
-        made.push(line_of(alloc, shape, log_only, mode, group)?)?;
+        match line_of(alloc, shape, log_only, mode, group) {
+            Ok(line) => made.push(line)?,
+            Err((error, _)) => return Err(error),
+        }
     }
     Ok(made)
 }

@@ -1,5 +1,5 @@
 // What a user tells of its groups.
-ghost use Rattle.std.specs.Prelude.{◌≡◌, ◌<◌, ◌||◌, length, slice_index};
+ghost use Rattle.std.specs.Prelude.{◌≡◌, ◌≢◌, ◌<◌, ◌||◌, MatchOption, length, slice_index};
 ghost use Rattle.model_core.specs.{line_at};
 ghost use Rattle.redo_useractor.specs.Ending.{has_ended};
 
@@ -19,6 +19,16 @@ impl UserActor {
         ensures { result ≡ has_ended self.now.step }
     {
         matches!(self.step, UserStep::Done | UserStep::Failed)
+    }
+
+    /// The code of the failure that has ended it, if one has.
+    pub fn failure(&self) -> Option<u32>
+        ensures { MatchOption result (self.now.step ≢ UserStep.Failed) (λ code. (self.now.step ≡ UserStep.Failed) × (code ≡ self.now.code)) }
+    {
+        match self.step {
+            UserStep::Failed => Some(self.code),
+            _ => None,
+        }
     }
 
     /// How many of its commits are answered.

@@ -6,7 +6,7 @@ use Rattle.atomic_table.specs.Seated.{TableId}
 use Rattle.atomic_table.specs.declared.shared.Seat.{Seat}
 use Rattle.model_core.specs.declared.words.Layout.{Layout}
 use Rattle.redo_ownrule.specs.Players.{ArePlain, MayRest, workers}
-use Rattle.redo_ownrule.specs.Sharing.{AreSeatsOf, IsSeated, own_of, starts_of, table_of}
+use Rattle.redo_ownrule.specs.Sharing.{AreSeatsOf, IsFixed, IsSeated, own_of, starts_of, table_of}
 use Rattle.redo_ownrule.specs.declared.player.Player.{Player}
 use Rattle.redo_ownrule.specs.declared.shared.Shared.{Shared}
 use Rattle.redo_rule.specs.Sharing.{AreLaidOut}
@@ -26,7 +26,7 @@ module _ {L D R : Type 0} where
     pub laid : AreLaidOut layout tokens
     pub plain : ArePlain players
 
-  -- each player of the store has its seat, none writes for itself, and there is no archive
+  -- each player of the store has its seat, none writes for itself, there is no archive, and the script was told
   pub record IsPlaying (shared : Shared L D R) (seats : List (Seat (Slot L D) (View L D))) (players : List
       (Player R)) : Type 0 where
     pub seated : IsSeated shared
@@ -34,3 +34,4 @@ module _ {L D R : Type 0} where
     pub plays : ArePlaying (table_of shared) shared.layout seats players
     pub all : length players + workers (own_of shared) ≡ length (starts_of shared)
     pub apart : shared.board.shared.key.archive ≡ false
+    pub fixed : IsFixed shared

@@ -1,7 +1,7 @@
 // Shared stores that were just formatted, each player with its seat.
 ghost use Rattle.std.specs.Prelude.{IfOk, false, ◌≡◌};
 ghost use Rattle.redo_drive.specs.Startable.{MayBegin};
-ghost use Rattle.redo_ownrule.specs.Sharing.{IsUnseated, own_of};
+ghost use Rattle.redo_ownrule.specs.Sharing.{IsFixed, IsUnseated, own_of};
 ghost use Rattle.tests_threads.specs.Playing.{IsPlaying};
 
 use crate::store::{Device, Ready, Way, make_ready, no_followers};
@@ -29,6 +29,7 @@ fn shared_of(
     ensures new { IfOk result (λ made. IsUnseated made.0 made.1.items) }
     ensures own { IfOk result (λ made. own_of made.0 ≡ false) }
     ensures apart { IfOk result (λ made. made.0.board.shared.key.archive ≡ false) }
+    ensures fixed { IfOk result (λ made. IsFixed made.0) }
 {
     let Ready { opened, script } = ready;
     match Shared::new(
@@ -50,6 +51,7 @@ fn seated(mut shared: Shared<Device, Device, Tally>, players: Vec<Player<Tally>>
     requires new { IsUnseated shared players.items }
     requires own { own_of shared ≡ false }
     requires apart { shared.board.shared.key.archive ≡ false }
+    requires fixed { IsFixed shared }
     ensures { IsPlaying result.shared result.seats.items result.players.items }
 {
     let seats = shared.seats(players.as_slice());

@@ -1,9 +1,10 @@
-use Rattle.std.proofs.Common.{IfSome, subst, sym, ◌∙◌}
+use Rattle.std.proofs.Common.{IfSome, ap, subst, sym, ◌∙◌}
 use Rattle.redo_drive.specs.Making.{EndsWithReaders}
 use Rattle.redo_drive.specs.Startable.{AreNewFollowers, IsNewArchive}
 use Rattle.redo_drive.specs.Views.{views_of}
 use Rattle.redo_ownrule.specs.Players.{crew}
 use Rattle.redo_ownrule.specs.Sharing.{opened_of, shared_script}
+use Rattle.redo_rule.specs.Ruled.{starts_with}
 use Rattle.redo_threads.proofs.Driving.{archived, followed, has_cause, owes, reads_so, runs_in_threads}
 use Rattle.redo_threads.proofs.drive.drive_in_threads.Goals as goal
 
@@ -78,7 +79,8 @@ returns-clause-followed g c =
     c.run_threads-closed.result.1.items (c.run_threads-closed.ensures.leaves new.work (new.works ∙ sym new.own_is))
     c.args.followers.items c.requires.new
     (subst (λ b. EndsWithReaders c.args.opened.start b (crew new.work c.in-Ok.made.1.items) c.args.followers.items)
-    (sym new.archive_is) new.readers) new.actors_are new.followers_are
+    (sym new.archive_is) new.readers) (sym (ap (starts_with key) new.fixed) ∙ new.actors_are)
+    new.followers_are
 
 pub returns-clause-archived : goal.returns-clause-archived
 returns-clause-archived g c =

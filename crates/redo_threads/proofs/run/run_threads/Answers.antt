@@ -52,6 +52,9 @@ finish-closed-requires-clause-seats g c =
     c.play_crew-crew.ensures.goes_on in
     in_order g.F.Receiver.stands_for (table_of S) x y at.count keep (own_of S) at
 
+pub finish-closed-requires-clause-fixed : goal.finish-closed-requires-clause-fixed
+finish-closed-requires-clause-fixed g c = ap (λ b. b.shared.key.live) c.seats-seats.ensures.same ∙ c.requires.fixed
+
 pub finish-closed-requires-clause-order : goal.finish-closed-requires-clause-order
 finish-closed-requires-clause-order g c =
     let S = c.seats-seats.new.self in
@@ -132,7 +135,8 @@ returns-clause-reads g c kept =
     reads_marks g.L.Sectors.seen g.L.Sectors.gives g.D.Sectors.seen g.D.Sectors.gives g.F.Receiver.stands_for
     (opened_of c.args.shared) (shared_script c.args.shared) key.log_only key.followers
     (crew end.work c.args.players.items) c.finish-closed.result.1.items (done_with c.finish-closed.result.0)
-    (returns-clause-leaves g c end.work works) c.requires.unseated.ready.may kept c.finish-closed.ensures.rest
+    (returns-clause-leaves g c end.work works) (c.requires.unseated.ready.may c.requires.fixed) kept
+    c.finish-closed.ensures.rest
 
 -- the archive as it begins, and what it has met
 pub play_crew-crew-requires-clause-archive : goal.play_crew-crew-requires-clause-archive
@@ -148,10 +152,11 @@ play_crew-crew-requires-clause-archive g c κs within = by c.args.archive refl
     by (Some part) is = (
       c.args.shared.board.shared.key,
       part,
-      may_be g.A.Sectors.seen c.args.shared c.args.players.items c.requires.readers g.A.Sectors.gives part
+      may_be g.A.Sectors.seen c.args.shared c.args.players.items c.requires.readers
+          c.requires.fixed g.A.Sectors.gives part
           (subst (λ a. IfSome a (IsNewArchive g.A.Sectors.seen (opened_of c.args.shared) (shared_script c.args.shared))) is
           c.requires.archive)
-          c.requires.unseated.ready.may x refl
+          (c.requires.unseated.ready.may c.requires.fixed) x refl
           (subst (λ b. AreFresh (Some b.shared.key) c.seats-seats.result.items) c.seats-seats.ensures.same
           c.seats-seats.ensures.fresh)
           (c.requires.is_archived ∙ ap is_some is),
@@ -178,14 +183,16 @@ finish-closed-requires-clause-lost g c =
         (sym (c.requires.is_archived ∙ ap is_some is))
         (c.lost_by-lost.ensures ∙ ap (λ (a : Option (Part g.row.A.Denot)). lost_of a) gone)
     by (Some part) is =
-        tells g.A.Sectors.seen c.args.shared c.args.players.items c.requires.readers g.F.Receiver.stands_for
+        tells g.A.Sectors.seen c.args.shared c.args.players.items c.requires.readers
+        c.requires.fixed g.F.Receiver.stands_for
         c.ring.result.now.table_id x y refl (c.seats-seats.ensures.seats.count ∙ ap length c.as_slice-3.ensures.value)
         c.play_crew-crew.ensures.goes_on
         (subst (λ b. AreFresh (Some b.shared.key) c.seats-seats.result.items) c.seats-seats.ensures.same
         c.seats-seats.ensures.fresh) part
         (subst (λ a. IfSome a (IsNewArchive g.A.Sectors.seen (opened_of c.args.shared) (shared_script c.args.shared))) is
         c.requires.archive)
-        c.requires.unseated.ready.may (c.requires.is_archived ∙ ap is_some is) c.play_crew-crew.result.1
+        (c.requires.unseated.ready.may c.requires.fixed) (c.requires.is_archived ∙ ap is_some is)
+        c.play_crew-crew.result.1
         (subst (λ a. LeavesArchive g.A.Sectors.seen g.A.Sectors.gives x a y c.play_crew-crew.result.1) is
         c.play_crew-crew.ensures.archive) c.lost_by-lost.result c.lost_by-lost.ensures
 
@@ -216,14 +223,16 @@ returns-clause-archived g c = by c.args.archive refl
         let end = c.finish-closed.ensures.actors in
         let works = end.works ∙ ap (λ b. b.shared.key.own_writes) c.seats-seats.ensures.same in
         subst (λ a. Have a c.play_crew-crew.result.1) (sym is)
-        (leaves_archive g.A.Sectors.seen c.args.shared c.args.players.items c.requires.readers g.F.Receiver.stands_for
+        (leaves_archive g.A.Sectors.seen c.args.shared c.args.players.items c.requires.readers
+        c.requires.fixed g.F.Receiver.stands_for
         c.ring.result.now.table_id x y refl (c.seats-seats.ensures.seats.count ∙ ap length c.as_slice-3.ensures.value)
         c.play_crew-crew.ensures.goes_on
         (subst (λ b. AreFresh (Some b.shared.key) c.seats-seats.result.items) c.seats-seats.ensures.same
         c.seats-seats.ensures.fresh) part
         (subst (λ a. IfSome a (IsNewArchive g.A.Sectors.seen (opened_of c.args.shared) (shared_script c.args.shared))) is
         c.requires.archive)
-        c.requires.unseated.ready.may (c.requires.is_archived ∙ ap is_some is) c.play_crew-crew.result.1
+        (c.requires.unseated.ready.may c.requires.fixed) (c.requires.is_archived ∙ ap is_some is)
+        c.play_crew-crew.result.1
         (subst (λ a. LeavesArchive g.A.Sectors.seen g.A.Sectors.gives x a y c.play_crew-crew.result.1) is
         c.play_crew-crew.ensures.archive)
         g.L.Sectors.seen g.L.Sectors.gives g.D.Sectors.seen g.D.Sectors.gives end.work works c.finish-closed.result.1.items

@@ -82,14 +82,15 @@ returns g c =
     c.close_table-log.result T E c.give_actors-actors.result.items c.give_actors-actors.ensures in
     let listed = its_list g.L.Sectors.seen g.L.Sectors.gives g.D.Sectors.seen g.D.Sectors.gives
     c.args.self.board.shared.key (own_of c.args.self) (heard_by c.args.seats.items) c.args.players.items
-    c.close_table-log.result c.give_actors-actors.result.items F c.as_slice-2.result.now c.as_slice-2.ensures.value _
-    c.requires.seated.ready.room c.history_of-history.result
+    c.close_table-log.result c.give_actors-actors.result.items F c.requires.fixed
+    c.as_slice-2.result.now c.as_slice-2.ensures.value _
+    (c.requires.seated.ready.room c.requires.fixed) c.history_of-history.result
     (c.history_of-history.ensures c.requires.seated.ready.no_entries) in
     let loss = its_losses c.args.self.board.shared.key.archive F.work c.args.players.items
     c.give_actors-actors.result.items F.are c.args.lost c.requires.lost in
     let own = leaves_own g.L.Sectors.seen g.L.Sectors.gives g.D.Sectors.seen g.D.Sectors.gives
     c.args.self.board.shared.key F.all_heard c.give_actors-actors.result.items c.close_table-log.result F.parts _ refl
-    refl refl refl listed loss in
+    refl refl refl listed loss c.requires.fixed in
     record {
       actors = actors_of g.L.Sectors.seen g.L.Sectors.gives g.D.Sectors.seen g.D.Sectors.gives
           c.args.self.board.shared.key (own_of c.args.self) (heard_by c.args.seats.items) c.args.players.items
@@ -98,12 +99,12 @@ returns g c =
       leaves = λ work starts works same heard. leaves_players g.L.Sectors.seen g.L.Sectors.gives g.D.Sectors.seen
           g.D.Sectors.gives c.args.self.board.shared.key (own_of c.args.self) F.all_heard c.args.seats.items
           c.args.players.items c.requires.seats.count F.heard_is F.work F.works c.give_actors-actors.result.items F.are
-          c.close_table-log.result F.parts _ refl refl refl refl listed loss g.R.Receiver.stands_for work starts works same
-          heard;
+          c.close_table-log.result F.parts _ refl refl refl refl listed loss
+          c.requires.fixed g.R.Receiver.stands_for work starts works same heard;
       listed = listed;
       owed = is_owed g.L.Sectors.seen g.L.Sectors.gives g.D.Sectors.seen g.D.Sectors.gives c.args.self.board.shared.key
           F.all_heard c.give_actors-actors.result.items c.close_table-log.result F.parts _ refl refl refl refl listed
-          loss c.requires.seated.ready.may;
+          loss c.requires.fixed (c.requires.seated.ready.may c.requires.fixed);
       reaches = reaches_all g.L.Sectors.seen g.L.Sectors.gives g.D.Sectors.seen g.D.Sectors.gives (λ r l. Unit {0})
           c.args.self.board.shared.key.opened.value c.args.self.board.shared.key.script.value
           c.args.self.board.shared.key.log_only c.args.self.board.shared.key.archive

@@ -1,4 +1,4 @@
-use Rattle.std.proofs.Common.{List, Option, Some, ap, arith, length, refl, subst, sym, ◌∙◌, ◌≡◌}
+use Rattle.std.proofs.Common.{List, None, Option, Some, ap, arith, length, refl, subst, sym, ◌∙◌, ◌≡◌}
 use Rattle.std.specs.Prelude.{replicate}
 use Rattle.model_base.specs.declared.limits.TheConstants.{BLOCK_SIZE}
 use Rattle.model_own.specs.OwnWrites.{LogWork}
@@ -24,6 +24,7 @@ make_board-requires g c =
     let about : About g.row.L.Denot g.row.D.Denot = record {
       opened = c.of-opened_is.result;
       script = c.of.result;
+      live = None;
       log_only = c.args.log_only;
       archive = c.args.archive;
       followers = c.len-count.result;
@@ -35,7 +36,7 @@ make_board-requires g c =
     c.in_ok-parts.ensures.begins in
     let may = about_may g.L.Sectors.seen g.D.Sectors.seen g.R.Receiver.stands_for about c.args.followers.items
     c.args.opened c.args.script.now c.args.log_only c.of-opened_is.ensures c.of.ensures refl c.requires.may in
-    opens_players g.L.Sectors.seen g.D.Sectors.seen g.R.Receiver.stands_for about c.args.followers.items
+    opens_players g.L.Sectors.seen g.D.Sectors.seen g.R.Receiver.stands_for about refl c.args.followers.items
     (let n = c.len-count.ensures in omega arith) start B may c.in-Ok.field-0 c.in-Ok.ensures g.L.Sectors.gives
     g.D.Sectors.gives c.in-Ok-lay_out.ensures.slots.1 (replicate BLOCK_SIZE 0) _ _ c.as_slice.ensures.words
     (c.in-Ok-lay_out.ensures.slots.0
@@ -55,6 +56,7 @@ returns-in-Ok-make_board-clause-new g c =
     let about : About g.row.L.Denot g.row.D.Denot = record {
       opened = c.of-opened_is.result;
       script = c.of.result;
+      live = None;
       log_only = c.args.log_only;
       archive = c.args.archive;
       followers = c.len-count.result;
@@ -74,17 +76,18 @@ returns-in-Ok-make_board-clause-new g c =
       log_only_is = ap (λ (z : About _ _). z.log_only) made.key;
       own_is = ap (λ (z : About _ _). z.own_writes) made.key;
       followers_are = ap (λ (z : About _ _). z.followers) made.key ∙ many;
+      fixed = ap (λ (z : About _ _). z.live) made.key;
       work = c.in-Ok.field-0.work;
       works = c.in-Ok.ensures.works;
       actors_are = ap (λ (z : About _ _). starts_about z) made.key
-          ∙ starts_are g.L.Sectors.seen g.D.Sectors.seen g.R.Receiver.stands_for about c.args.followers.items many start
-          B may c.in-Ok.field-0 c.in-Ok.ensures;
+          ∙ starts_are g.L.Sectors.seen g.D.Sectors.seen g.R.Receiver.stands_for about refl c.args.followers.items many
+          start B may c.in-Ok.field-0 c.in-Ok.ensures;
       archive_is = ap (λ (z : About _ _). z.archive) made.key;
       readers = subst (λ (l : List (Actor g.row.R.Denot)). EndsWithReaders c.args.opened.start c.args.archive l
           c.args.followers.items)
           (sym c.in-Ok.ensures.are) c.in_ok-parts.ensures.begins.followers;
-      unseated = unseated g.L.Sectors.seen g.D.Sectors.seen g.R.Receiver.stands_for about c.args.followers.items many
-          start B may c.in-Ok.field-0 c.in-Ok.ensures
+      unseated = unseated g.L.Sectors.seen g.D.Sectors.seen g.R.Receiver.stands_for about refl c.args.followers.items
+          many start B may c.in-Ok.field-0 c.in-Ok.ensures
           (record {
             board = c.in-Ok-make_board.board;
             first = c.in-Ok-make_board.first;

@@ -18,6 +18,7 @@ returns-clause-seated g c =
     (search rules)) in
     record {
       ready = (let r = c.requires.ready in record {
+        runnable = r.runnable;
         may = r.may;
         no_entries = r.no_entries;
         room = r.room;

@@ -15,6 +15,7 @@ invariant_of-result c =
       some_bytes = subst (λ (l : List Line). (j : ℕ) → j < length l → 0 < length (line_at l j).bytes) (sym c.in_ok-made.ensures) texts;
       step = elim c.if-has_lines.branch [
         | then-has_lines w ↦ rw w.step-is (record { line = grind (arith, common_steps); none = grind (arith, common_steps) })
-        | else-has_lines w ↦ rw w.step-is tt
+        | else-has_lines w ↦
+            rw w.step-is (record { all = grind (arith, common_steps); none = grind (arith, common_steps) })
       ];
     }

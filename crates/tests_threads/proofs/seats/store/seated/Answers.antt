@@ -27,4 +27,5 @@ returns c =
           (sym same)
           c.requires.new.count;
       apart = ap (λ b. b.shared.key.archive) same ∙ c.requires.apart;
+      fixed = ap (λ b. b.shared.key.live) same ∙ c.requires.fixed;
     }

@@ -12,8 +12,8 @@ use Rattle.redo_drive.specs.Views.{view_of, views_of}
 use Rattle.redo_drive.specs.declared.actor.Actor.{Actor}
 use Rattle.redo_drive.specs.declared.actor.Actor.TheVariants as own
 use Rattle.redo_useractor.specs.{AreUserLines, program_lines}
-use Rattle.redo_drive.proofs.seating.seat_users.Goals.{then-not-is_empty+in_ok-actor+in_ok-push, else-not-is_empty}
-use Rattle.redo_drive.proofs.seating.seat_users.Goals as goal
+use Rattle.redo_drive.proofs.users.seat_users.Goals.{then-not-is_empty+in_ok-actor+in_ok-push, else-not-is_empty}
+use Rattle.redo_drive.proofs.users.seat_users.Goals as goal
 use Rattle.model_log.specs.{run_layout}
 
 pub loop-user-init : goal.loop-user-init

@@ -3,7 +3,7 @@ use Rattle.std.proofs.Common.{map, ◌≡◌}
 use Rattle.model_core.specs.Actors as actor
 use Rattle.redo_drive.specs.Setups.{programs_of, users_below}
 use Rattle.redo_drive.specs.Views.{views_of}
-use Rattle.redo_drive.proofs.seating.seat_users.Given as goal
+use Rattle.redo_drive.proofs.users.seat_users.Given as goal
 use Rattle.model_log.specs.{run_layout}
 
 abbrev pub invariant-loop-user : goal.invariant-loop-user

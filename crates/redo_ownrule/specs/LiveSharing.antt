@@ -1,0 +1,25 @@
+-- A live store that its players share, as its run begins.
+use Rattle.std.specs.Prelude.{Bool, List, None, Option, Some, [], false, map, ◌≡◌}
+use Rattle.model_core.specs.Actors as model
+use Rattle.redo_drive.specs.LiveActors.{live_actors}
+use Rattle.redo_drive.specs.Views.{views_of}
+use Rattle.redo_ownrule.specs.Players.{actor_of}
+use Rattle.redo_ownrule.specs.Sharing.{IsUnseated, key_of, opened_of, own_of, shared_script}
+use Rattle.redo_ownrule.specs.declared.player.Player.{Player}
+use Rattle.redo_ownrule.specs.declared.shared.Shared.{Shared}
+use Rattle.redo_rule.specs.declared.law.Live.{Live}
+use Rattle.redo_store.specs.declared.opened.Opened.{Opened}
+
+-- THE STORE IS SHARED AS A LIVE RUN BEGINS on this opened store: with so many users, none of which has a line yet, and
+-- with the actors beside them as its players, none of which has its seat.
+pub record IsNewlyLive {L D R : Type 0} (opened : Opened L D) (live : Live) (log_only : Bool) (shared : Shared L D R)
+    (players : List (Player R)) : Type 0 where
+  pub opened_is : opened_of shared ≡ opened
+  pub is_live : ◌≡◌ {A = Option Live} (key_of shared).live (Some live)
+  pub no_script : shared_script shared ≡ []
+  pub log_only_is : (key_of shared).log_only ≡ log_only
+  pub own_is : own_of shared ≡ false
+  pub archive_is : (key_of shared).archive ≡ false
+  pub actors_are : ◌≡◌ {A = List model.Actor} (views_of (map actor_of players))
+      (live_actors opened.shape live.users opened.start log_only false 0)
+  pub unseated : IsUnseated shared players

@@ -1,0 +1,47 @@
+// A user that is handed in one line more.
+ghost use Rattle.std.specs.Prelude.{◌≡◌, IfErr, IfOk};
+ghost use Rattle.model_base.specs.{IsWithinLimits};
+ghost use Rattle.model_core.specs.{line_of};
+ghost use Rattle.redo_useractor.specs.Handing.{with_line};
+ghost use Rattle.redo_useractor.specs.Lines.{IsUserLine};
+
+use crate::actor::UserActor;
+use crate::making::line_of;
+use model_base::Shape;
+use model_core::UserStep;
+use model_log::Group;
+use redo_lsn::NoMemory;
+use std::alloc::Global;
+
+impl UserActor {
+    /// Goes on to one line more, a user that has done all that it had. It takes the room for all that the line needs. Where
+    /// there is none the user is as it was, and the group comes back.
+    pub fn take_line(
+        &mut self,
+        alloc: Global,
+        mode: u32,
+        group: Group,
+        shape: &Shape,
+        log_only: bool,
+    ) -> Result<(), (NoMemory, Group)>
+        requires limits { IsWithinLimits shape.now }
+        requires line { IsUserLine shape.now (mode, group) }
+        requires done { self.old.step ≡ UserStep.Done }
+        ensures ok { IfOk result (λ _. self.new ≡ with_line self.old (line_of log_only shape.now mode group)) }
+        ensures err { IfErr result (λ back. (self.new ≡ self.old) × (back.1 ≡ group)) }
+    {
+        match self.lines.reserve(1) {
+            Ok(()) => {}
+            Err(_) => return Err((NoMemory, group)),
+        }
+        match self.starts.reserve(1) {
+            Ok(()) => {}
+            Err(_) => return Err((NoMemory, group)),
+        }
+        let line = line_of(alloc, shape, log_only, mode, group)?;
+        self.lines.push_reserved(line);
+        self.checks = true;
+        self.step = UserStep::LoadCheckpoint;
+        Ok(())
+    }
+}
