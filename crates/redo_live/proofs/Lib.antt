@@ -1,0 +1,16 @@
+pub mod Answered
+pub mod Closed
+pub mod Crashed
+pub mod Fits
+pub mod GivenLine
+pub mod GoneOn
+pub mod Handing
+pub mod KeptCommit
+pub mod Later
+pub mod NewlyOpened
+pub mod Quotas
+pub mod Seatings
+pub mod Sharing
+pub mod StoreSync
+pub mod TakenLine
+pub mod Workers

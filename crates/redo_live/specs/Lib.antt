@@ -1,0 +1,11 @@
+pub mod Closing
+pub mod Committing
+pub mod Crashed
+pub mod Giving
+pub mod Holding
+pub mod Kept
+pub mod Later
+pub mod Opening
+pub mod Quota
+pub mod Seating
+pub mod Telling

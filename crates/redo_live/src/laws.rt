@@ -1,0 +1,67 @@
+// What a user's commits come to. Each law is the contract of a function that does nothing.
+ghost use Rattle.std.specs.Prelude.{List, Some, length, ℕ, ◌≡◌};
+ghost use lib.ListN.{get_elem?};
+ghost use mathlib.Core.Option.{some};
+ghost use Rattle.model_core.specs.{UserState};
+ghost use Rattle.model_script.specs.declared.item.Item.{Item};
+ghost use Rattle.model_store.specs.Reading.{Reading};
+ghost use Rattle.model_theorem.specs.{Opened};
+ghost use Rattle.model_theorem.specs.Run.{IsPrefixRead};
+ghost use Rattle.redo_drive.specs.Drive.{closed_run};
+ghost use Rattle.redo_live.specs.Closing.{LeavesStore};
+ghost use Rattle.redo_live.specs.Committing.{HasCommitted, IsRefusedSo};
+ghost use Rattle.redo_live.specs.Crashed.{IsReadAfterCrash};
+ghost use Rattle.redo_live.specs.Holding.{IsOpen, shape_of, state_of};
+ghost use Rattle.redo_live.specs.Kept.{IsKeptCommit, IsReadCommit};
+ghost use Rattle.redo_live.specs.Later.{HasGoneOn};
+ghost use Rattle.redo_live.specs.declared.refused.Refused.{Refused};
+ghost use Rattle.redo_live.specs.declared.store.Store.{Store};
+ghost use Rattle.redo_live.specs.declared.user.User.{User};
+ghost use Rattle.redo_ownrule.specs.LiveLeaving.{closed_with};
+ghost use Rattle.redo_ownrule.specs.Sharing.{opened_of};
+ghost use Rattle.redo_rule.specs.declared.closing.Left.{Left};
+
+use model_theorem::held_run_reads;
+use redo_disk::Sectors;
+
+/// A user goes on through its commits, however many these are and whatever they are answered.
+pub fn commits_go_on<L: Sectors, D: Sectors>()
+    ensures same { (u : UserState) → HasGoneOn u u }
+    ensures further { (u v w : UserState) → HasGoneOn u v → HasGoneOn v w → HasGoneOn u w }
+    ensures refused { (store : Store L D) (old new : User L D) (mode : ℕ) (items : List Item) (refused : Refused)
+        → IsRefusedSo store old mode items refused new → HasGoneOn (state_of old) (state_of new) }
+{}
+
+/// A commit that was answered is kept: the history that the store leaves has it as that of its user's line, with the group of
+/// its operations and the end that was answered, however the user went on from there.
+pub fn commit_is_kept<L: Sectors, D: Sectors>()
+    ensures { (store : Store L D) (users : List (User L D)) (left : Left L D) (old new last : User L D) (i mode end : ℕ)
+        (items : List Item) → IsOpen store → HasCommitted store old mode items new end
+        → HasGoneOn (state_of new) (state_of last) → get_elem? users i ≡ some last
+        → (leaves : LeavesStore L.seen L.gives D.seen D.gives store users left)
+        → IsKeptCommit leaves.leaves.script (shape_of store).space leaves.leaves.history (state_of last).user
+        (length (state_of old).lines) mode items end }
+{}
+
+/// THE CRASH THEOREM of a store that is called, by whatever program, and however its devices are stopped: what a crash leaves
+/// of them is read as a prefix of the history.
+pub fn called_store_is_read<L: Sectors, D: Sectors>()
+    ensures { (store : Store L D) (users : List (User L D)) (left : Left L D)
+        → (leaves : LeavesStore L.seen L.gives D.seen D.gives store users left)
+        → IsReadAfterCrash L.seen D.seen (opened_of store.shared) left leaves.leaves.script leaves.leaves.history }
+{
+    held_run_reads();
+}
+
+/// Each commit in mode 1 that was answered is read: where pages are read as a prefix of the history, they have its group
+/// applied whole, and what is read reaches its end.
+pub fn flushed_commit_is_read<L: Sectors, D: Sectors>()
+    ensures { (store : Store L D) (users : List (User L D)) (left : Left L D) (old new last : User L D) (i end : ℕ)
+        (items : List Item) → IsOpen store → HasCommitted store old 1 items new end
+        → HasGoneOn (state_of new) (state_of last) → get_elem? users i ≡ some last
+        → (leaves : LeavesStore L.seen L.gives D.seen D.gives store users left) (opened : Opened) (reading : Reading)
+        → IsPrefixRead leaves.leaves.script opened
+        (Some (closed_run (opened_of store.shared).start (closed_with left leaves.leaves.history))) reading
+        → IsReadCommit leaves.leaves.script opened.shape.space
+        (closed_run (opened_of store.shared).start (closed_with left leaves.leaves.history)) reading items end }
+{}

@@ -1,0 +1,15 @@
+// A user of a live store.
+use redo_disk::Sectors;
+use redo_follow::Tally;
+use redo_ownrule::Player;
+use redo_rule::Seat;
+
+/// A user of a live store, which commits one group after the other. It may go to another thread. The store takes it back as it is
+/// closed: one whose user was dropped can't be closed.
+#[derive(Drop)]
+pub struct User<L: Sectors, D: Sectors> {
+    pub(crate) seat: Seat<L, D>,
+    pub(crate) player: Player<Tally>,
+    // how many bytes its groups have together
+    pub(crate) used: u64,
+}
