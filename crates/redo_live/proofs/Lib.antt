@@ -1,6 +1,8 @@
 pub mod Answered
 pub mod Closed
 pub mod Crashed
+pub mod Crossed
+pub mod Crew
 pub mod Fits
 pub mod GivenLine
 pub mod GoneOn

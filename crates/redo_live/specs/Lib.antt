@@ -8,4 +8,5 @@ pub mod Later
 pub mod Opening
 pub mod Quota
 pub mod Seating
+pub mod Serving
 pub mod Telling
