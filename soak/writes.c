@@ -1,9 +1,10 @@
-// Tells of the calls that a program makes on the files `redo.log`, `redo.data` and `redo.archive`: each read or write with its
-// place, each write with its bytes, each good sync, in their order, whichever thread makes them: those of one device follow each
-// other, and those of all run side by side as the program has them. It is loaded in front of the C library. EVENTS names the
-// file that takes them. FAILS may hold a device (0, 1 or 2), a number and 0 or 1: that write or sync of the device, counted from
-// 0, then fails, and such a write is made all the same where the last number is 1. KILLS may hold a device and two numbers: of
-// that write of the device, counted from 0, so many of the first sectors are made, and then the process is killed.
+// Tells of the calls that a program makes on the files `redo.log`, `redo.data` and `redo.archive`, or `bank.log` and
+// `bank.data`: each read or write with its place, each write with its bytes, each good sync, in their order, whichever thread
+// makes them: those of one device follow each other, and those of all run side by side as the program has them. It is loaded in
+// front of the C library. EVENTS names the file that takes them. FAILS may hold a device (0, 1 or 2), a number and 0 or 1: that
+// write or sync of the device, counted from 0, then fails, and such a write is made all the same where the last number is 1.
+// KILLS may hold a device and two numbers: of that write of the device, counted from 0, so many of the first sectors are made,
+// and then the process is killed.
 #define _GNU_SOURCE
 #include <errno.h>
 #include <fcntl.h>
@@ -56,11 +57,11 @@ static int name_of(int file) {
     if (length < 0) return OTHER;
     path[length] = 0;
     const char *name = strrchr(path, '/');
-    int found = !name                              ? OTHER
-                : !strcmp(name + 1, "redo.log")     ? LOG
-                : !strcmp(name + 1, "redo.data")    ? DATA
-                : !strcmp(name + 1, "redo.archive") ? ARCHIVE
-                                                    : OTHER;
+    int found = !name                                                           ? OTHER
+                : !strcmp(name + 1, "redo.log") || !strcmp(name + 1, "bank.log")   ? LOG
+                : !strcmp(name + 1, "redo.data") || !strcmp(name + 1, "bank.data") ? DATA
+                : !strcmp(name + 1, "redo.archive")                                ? ARCHIVE
+                                                                                   : OTHER;
     set_name(file, found);
     return found;
 }
