@@ -39,10 +39,12 @@ none_loaded = record { ckpt = 0; write = 0; wtail = 0; ctail = 0; flushed = 0 }
 
 -- A user with its number and lines. `k` commits are answered; a group is reserved at each of `starts`, in sns, and where these
 -- are more than k the last is in hand: it starts at `start`, and so many of its bytes are copied. Where the user checks, its
--- next Op is a load of FAILED, and then that of its step; so of each actor. `code` is the failure that ended it.
+-- next Op is a load of FAILED, and then that of its step; so of each actor. `code` is the failure that ended it. A user that
+-- keeps all can tell the text and the start of each of its groups, any other those of the line in hand alone.
 pub record UserState : Type 0 where
   pub user : ℕ
   pub blocks : ℕ
+  pub keeps : Bool
   pub lines : List Line
   pub starts : List ℕ
   pub k : ℕ

@@ -102,7 +102,7 @@ module _ {live : Bool} (c : Setup) (users : List OwnUser) (k : LogWork) (others 
       let us : List OwnUser = set users i x in
       let with_user = seats_keep c (all_actors users k others) seated i (actor.User o.user) (actor.User x.user)
       (user_there users k others i o at)
-      (x.user, refl, same.0, same.1, same.2, same.3, same.4) in
+      (x.user, refl, same.0, same.1, same.2, same.3, same.4, same.5) in
       let s1 : AreSeated live c (all_actors us k others) =
       subst (AreSeated live c) (user_put users k others i o x at) with_user in
       let writer_in = seats_keep c (all_actors us k others) s1 (writer_seat us) (actor.Writer k.writer)

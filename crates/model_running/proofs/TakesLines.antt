@@ -300,7 +300,7 @@ pub seats_take_lines : {live : Bool} (c : Setup) (actors : List Actor) → live 
     (more : List Line) → get_elem? actors seat ≡ maybe.some (actor.User u)
     → AreSeated live (logged.grown c u.user more) (set actors seat (actor.User (logged.taking u more)))
 seats_take_lines c actors is seated seat u more at =
-    let same = user_keeps c actors seated seat u (logged.taking u more) at refl in
+    let same = user_keeps c actors seated seat u (logged.taking u more) at refl refl in
     let here = user_seat c (set actors seat (actor.User (logged.taking u more))) same seat (logged.taking u more)
     (set_at actors seat (actor.User u) (actor.User (logged.taking u more)) at) in
     record {
@@ -312,6 +312,7 @@ seats_take_lines c actors is seated seat u more at =
       page_actors = same.page_actors;
       ascending = same.ascending;
       have_lines = λ fixed. let z : true ≡ false = sym is ∙ fixed in absurd (cc);
+      keep = same.keep;
       all = λ user some. elim (ℕ_discrete user u.user) [
         | yes own ↦ (seat, logged.taking u more, here, sym own)
         | no other ↦ same.all user

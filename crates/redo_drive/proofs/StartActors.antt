@@ -1,8 +1,10 @@
 -- The actors of a run as it begins: each is new, and in its seat.
-use Rattle.std.proofs.Common.{Bool, List, [], ap, append_assoc, arith, false, if◌then◌else◌, length, length-append}
+use Rattle.std.proofs.Common.{Bool, List, [], ap, append_assoc, arith, cond, false, if◌then◌else◌, length}
+use Rattle.std.proofs.Common.{length-append, ◌==◌}
 use Rattle.std.proofs.Common.{map, refl, subst, suc, sym, true, zero, ℕ, ⊎_elim, ◌++◌, ◌+◌, ◌<◌, ◌∙◌, ◌∷◌, ◌≡◌, ◌≤◌}
 use Rattle.std.specs.List.{AllByRecursion}
 use Rattle.std.specs.Prelude.{slice_index}
+use Rattle.std.proofs.lemmas.Bool.Decides.{nat_tests}
 use Rattle.std.proofs.lemmas.List.{get_or_past, length-map}
 use lib.ListN.{get_elem?}
 use mathlib.Core.Option.{some, some-injective, some-ne-none}
@@ -226,6 +228,11 @@ module _ (shape : Shape) (pages : List Content) (start : ℕ) (script : List Scr
         ∷ actor.Checkpointer new_last ∷ l) all.are,
   )
 
+  -- a user that begins with a line keeps all
+  keeps_some : (user blocks : ℕ) (lines : List Line) → 0 < length lines → (new_user user blocks lines).keeps ≡ true
+  keeps_some user blocks lines has_line =
+      let test : (length lines == 0) ≡ false = grind (arith, nat_tests) in ap (λ (t : Bool). cond t false true) test
+
   -- the users are seated, and the other actors after them
   pub are_seated : AreSeated live setup (with_others (map actor.User users) shape start log_only archive followers)
   are_seated = record {
@@ -238,6 +245,8 @@ module _ (shape : Shape) (pages : List Content) (start : ℕ) (script : List Scr
     page_actors = are_page_actors log_only;
     ascending = firsts.ascending;
     have_lines = firsts.have_lines;
+    keep = λ fixed i u at. ap (λ (z : UserState). z.keeps) (firsts.each i u at).1
+        ∙ keeps_some u.user (run_layout shape).blocks (programs u.user) (firsts.have_lines fixed i u at);
     all = firsts.all;
     closer = refl;
     cleaner = refl;

@@ -1,5 +1,5 @@
 -- What the users tell of their groups is the log of the run.
-use Rattle.std.proofs.Common.{Bool, List, [], ap, arith, get_or, length, map, refl, slice_index, suc, sym, zero, ℕ, ◌++◌, ◌+◌, ◌-◌, ◌<◌, ◌∙◌, ◌∷◌, ◌≡◌, ◌≤◌}
+use Rattle.std.proofs.Common.{Bool, List, [], ap, arith, false, get_or, length, map, refl, slice_index, suc, sym, zero, ℕ, ◌++◌, ◌+◌, ◌-◌, ◌<◌, ◌∙◌, ◌∷◌, ◌≡◌, ◌≤◌}
 use Rattle.std.proofs.lemmas.List.{length-map}
 use Rattle.std.proofs.lemmas.List.Concat.{flat_map-cons}
 use lib.ListN.{get_elem?}
@@ -10,7 +10,9 @@ use Rattle.model_core.proofs.Lsns.{lsn_less, sn_below}
 use Rattle.model_core.specs.Actors as model
 use Rattle.model_core.specs.{end_of, entries, entries_from, entry, Line, line_at, lsn, sum_of, Tiles, UserState}
 use Rattle.model_core.specs.Groups as core
-use Rattle.model_running.specs.{history_entry, history_of, word_marks}
+use Rattle.model_core.specs.Setup.{Setup}
+use Rattle.model_running.proofs.Seated.{user_seat}
+use Rattle.model_running.specs.{AreSeated, history_entry, history_of, word_marks}
 use Rattle.model_report.specs.declared.entry.Entry.{Entry}
 use Rattle.model_report.specs.declared.entry.Marks.{Marks}
 use Rattle.model_logcore.proofs.AnswersFit.{small_sn}
@@ -20,7 +22,7 @@ use Rattle.redo_disk.specs.Seen.{Seen}
 use Rattle.redo_drive.proofs.InOrder.{Rises, same_in_order, total, total_moved}
 use Rattle.redo_drive.proofs.Viewed.{view_at}
 use Rattle.redo_drive.specs.History.{ListsInOrder, all_listed, listed}
-use Rattle.redo_drive.specs.Reserved.{HasGroups, HasReserved}
+use Rattle.redo_drive.specs.Reserved.{HasGroups, HasReserved, KeepsAll}
 use Rattle.redo_drive.specs.Playing.{RunOf, run_log_side}
 use Rattle.redo_drive.specs.Running.{RunsWith}
 use Rattle.redo_drive.specs.Views.{view_of, views_of}
@@ -104,6 +106,11 @@ all_total answered marks f (x ∷ xs) are =
     let rest = all_total answered marks f xs (λ seat u at. are (suc seat) u at) in
     omega arith
 
+keeps_all : {live : Bool} (c : Setup) (actors : List model.Actor) → AreSeated live c actors → live ≡ false
+    → (seat : ℕ) (a : model.Actor) → get_elem? actors seat ≡ some a → KeepsAll a
+keeps_all c actors seated fixed seat (model.User u) at = seated.keep fixed seat u (user_seat c actors seated seat u at)
+keeps_all c actors seated fixed seat _ at = tt
+
 module _ {L D : Type 0} {archive : Bool} (log_seen : L → Seen) (data_seen : D → Seen) (run : RunOf L D) (parts : Parts L D)
     (actors : List model.Actor) (runs : RunsWith log_seen data_seen run archive parts actors) where
   abbrev ghosts : LogGhost
@@ -156,6 +163,14 @@ module _ {L D : Type 0} {archive : Bool} (log_seen : L → Seen) (data_seen : D 
   history_is history l =
       same_in_order (lsn run.setup.base) history (history_of ghosts.answered marks ghosts.log) l.in_order
       (history_rises ghosts.answered marks ghosts.log run.setup.base runs.running.shared.sn half.global.tiled.tiles) (λ f. total_moved f (all_listed marks actors) history l.all ∙ sums f)
+
+-- and in a run that isn't a live one each can tell them all
+pub have_kept : {L D R : Type 0} {archive : Bool} (log_seen : L → Seen) (data_seen : D → Seen) (run : RunOf L D) (parts : Parts L D)
+    (actors : List (Actor R)) → RunsWith log_seen data_seen run archive parts (views_of actors) → run.live ≡ false
+    → (seat : ℕ) (actor : Actor R) → seat < length actors → KeepsAll (view_of (get_or actors seat actor))
+have_kept log_seen data_seen run parts actors runs fixed seat actor l =
+    keeps_all run.setup (views_of actors) runs.seated fixed seat (view_of (get_or actors seat actor))
+    (view_at actors seat actor l)
 
 pub have_groups : {L D R : Type 0} {archive : Bool} (log_seen : L → Seen) (data_seen : D → Seen) (run : RunOf L D) (parts : Parts L D)
     (actors : List (Actor R)) → RunsWith log_seen data_seen run archive parts (views_of actors)

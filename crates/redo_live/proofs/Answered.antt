@@ -86,6 +86,7 @@ module _ {L D : Type 0} (store : Store L D) (u : UserState) (user : User L D) (m
   -- a user that has done a line has its answer
   pub has_answered : 0 < length u.lines → HasAnswered u
   has_answered some = record {
+    done = done;
     some_group = (let n = all_reserved in omega arith);
     groups = sits.mine.may.groups;
   }

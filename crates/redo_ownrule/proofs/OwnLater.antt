@@ -91,7 +91,7 @@ own_later log_seen data_seen o step x gone = ⊎_elim
     (later_refl (model.User o.user)))
     (λ played. let same = own_same o played.work played.answer in
     subst (λ (y : OwnUser). IsSameActor (model.User o.user) (model.User y.user)) (sym played.is)
-    ((own_goes_on o played.work played.answer).0.user, refl, same.0, same.1, same.2, same.3, same.4))
+    ((own_goes_on o played.work played.answer).0.user, refl, same.0, same.1, same.2, same.3, same.4, same.5))
     gone
 
 module _ {L D R : Type 0} (log_seen : L → Seen) (data_seen : D → Seen) {v : View L D} (p : Player R) (step : Step) where

@@ -22,7 +22,7 @@ use redo_words::{Answer, Lent, Op, Step, Word, old_of};
 use std::marker::Model;
 
 /// A user that writes for itself: in place of a wait for the log it goes on an errand. Contracts see its state.
-#[derive(Debug, Drop)]
+#[derive(Drop)]
 pub struct OwnUser {
     pub(crate) user: UserActor,
     pub(crate) errand: ErrandStep,

@@ -1,5 +1,5 @@
 -- What a table leaves is what a run leaves, and so what every drive owes.
-use Rattle.std.proofs.Common.{Bool, cond, List, None, Option, Some, get_or, ap, arith, drop, false, get_or-set_other, length, refl, subst, suc, sym, true, zero, ℕ, ◌<◌, ◌^◌, ◌∙◌, ◌∷◌, ◌≡◌, ◌≢◌, ◌≤◌, []}
+use Rattle.std.proofs.Common.{Bool, cond, List, None, Option, Some, get_or, ap, arith, drop, false, get_or-set_other, is_some, length, refl, subst, suc, sym, true, zero, ℕ, ◌<◌, ◌^◌, ◌∙◌, ◌∷◌, ◌≡◌, ◌≢◌, ◌≤◌, []}
 use Rattle.std.specs.Prelude.{IfSome, slice_index, slice_set}
 use lib.ListN.{get_elem?}
 use mathlib.Core.Option as maybe
@@ -23,12 +23,12 @@ use Rattle.redo_disk.specs.Seen.{Seen}
 use Rattle.redo_drive.proofs.FailureCode.{small_code}
 use Rattle.redo_drive.proofs.LeftRun as left_run
 use Rattle.redo_drive.proofs.LogCount.{log_within_script}
-use Rattle.redo_drive.proofs.Told.{as_many, have_groups, history_is}
+use Rattle.redo_drive.proofs.Told.{as_many, have_groups, have_kept, history_is}
 use Rattle.redo_follow.specs.Following.{Following}
 use Rattle.redo_drive.specs.Beginning.{HaveBegun, IsRunWith}
 use Rattle.redo_drive.specs.Startable.{HasReading, MayBegin}
 use Rattle.redo_drive.specs.History.{ListsInOrder, all_listed}
-use Rattle.redo_drive.specs.Reserved.{HasGroups}
+use Rattle.redo_drive.specs.Reserved.{HasGroups, KeepsAll}
 use Rattle.redo_drive.specs.Lists.{listing_at}
 use Rattle.redo_drive.specs.Leaving.{LeavesAs, LeavesWith}
 use Rattle.redo_drive.specs.Playing.{run_log_side}
@@ -49,6 +49,7 @@ use Rattle.model_own.specs.OwnWrites.{LogWork}
 use Rattle.redo_rule.specs.OwnSide.{desk_with, work_of}
 use Rattle.redo_rule.specs.declared.law.Desk.{Desk}
 use Rattle.redo_rule.specs.declared.law.Heard.{Heard}
+use Rattle.redo_rule.specs.declared.law.Live.{Live}
 use Rattle.redo_rule.specs.declared.law.Slot.{Slot}
 use Rattle.redo_rule.specs.declared.law.Slot.TheVariants as slot
 
@@ -206,6 +207,12 @@ module _ {L D : Type 0} (log_seen : L → Seen) (log_gives : L → Call → L �
       (P : LeavesParts log_seen log_gives data_seen data_gives about heard (views_of actors) left) where
     pub groups : (seat : ℕ) (actor : Actor R) → seat < length actors → HasGroups (view_of (get_or actors seat actor))
     groups = have_groups log_seen data_seen P.run P.last actors P.runs
+
+    -- in a run that isn't a live one each user can tell all its groups
+    pub keep_all : about.live ≡ None → (seat : ℕ) (actor : Actor R) → seat < length actors
+        → KeepsAll (view_of (get_or actors seat actor))
+    keep_all fixed = have_kept log_seen data_seen P.run P.last actors P.runs
+        (P.is_about.is_run.live_is ∙ ap (λ (o : Option Live). is_some o) fixed)
 
     -- The run is that of this script, a live one or not, and the closed store is what the table leaves, with the run's
     -- history.

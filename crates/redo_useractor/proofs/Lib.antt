@@ -1,4 +1,5 @@
 pub mod Heard
+pub mod Kept
 pub mod LinePlaces
 pub mod Lines
 pub mod Pages

@@ -33,7 +33,7 @@ impl UserActor {
         requires { self.now.k < length self.now.lines }
         ensures { result.now ≡ line self.now }
     {
-        &self.lines[self.k]
+        self.book.line()
     }
 
     fn page_number(&self) -> u32

@@ -6,7 +6,6 @@ ghost use Rattle.redo_useractor.specs.Handing.{with_line};
 ghost use Rattle.redo_useractor.specs.Lines.{IsUserLine};
 
 use crate::actor::UserActor;
-use crate::making::line_of;
 use model_base::Shape;
 use model_core::UserStep;
 use model_log::Group;
@@ -30,16 +29,7 @@ impl UserActor {
         ensures ok { IfOk result (λ _. self.new ≡ with_line self.old (line_of log_only shape.now mode group)) }
         ensures err { IfErr result (λ back. (self.new ≡ self.old) × (back.1 ≡ group)) }
     {
-        match self.lines.reserve(1) {
-            Ok(()) => {}
-            Err(_) => return Err((NoMemory, group)),
-        }
-        match self.starts.reserve(1) {
-            Ok(()) => {}
-            Err(_) => return Err((NoMemory, group)),
-        }
-        let line = line_of(alloc, shape, log_only, mode, group)?;
-        self.lines.push_reserved(line);
+        self.book.take_line(alloc, mode, group, shape, log_only)?;
         self.checks = true;
         self.step = UserStep::LoadCheckpoint;
         Ok(())

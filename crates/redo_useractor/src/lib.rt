@@ -4,6 +4,7 @@
 
 mod actor;
 mod asking;
+mod book;
 mod changes;
 mod changing;
 mod handing;

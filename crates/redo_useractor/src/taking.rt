@@ -45,8 +45,7 @@ impl UserActor {
         ensures state { self.new ≡ answered self.old }
         ensures step { result ≡ (if self.old.k + 1 == length self.old.lines then Step.Ended else Step.Moved) }
     {
-        self.k += 1;
-        if self.k == self.lines.len() {
+        if self.book.pass() {
             self.checks = false;
             self.step = UserStep::Done;
             return Step::Ended;
@@ -130,7 +129,7 @@ impl UserActor {
         ensures state { self.new ≡ user_took self.old n UserStep.Reserve }
         ensures step { result ≡ step_end self.old n UserStep.Reserve self.new }
     {
-        self.starts.push_reserved(n);
+        self.book.start(n);
         self.start = n;
         self.copied = 0;
         self.page = 0;

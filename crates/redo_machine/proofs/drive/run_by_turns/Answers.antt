@@ -73,9 +73,9 @@ leads g c =
       data_part = c.finish-closed.ensures.parts.1;
       marks = c.finish-closed.ensures.marks;
       code = c.finish-closed.ensures.code;
-      history = c.finish-closed.ensures.history B.run (is_some c.args.archive) R
+      history = c.finish-closed.ensures.history B.run (is_some c.args.archive) R B.is_run.live_is
           (rw c.run-ended.ensures.entries B.no_entries) room;
-      listed = c.finish-closed.ensures.listed B.run (is_some c.args.archive) R
+      listed = c.finish-closed.ensures.listed B.run (is_some c.args.archive) R B.is_run.live_is
           (rw c.run-ended.ensures.entries B.no_entries) room;
     }
 

@@ -55,8 +55,10 @@ leads g c =
       data_part = c.finish-closed.ensures.parts.1;
       marks = c.finish-closed.ensures.marks;
       code = c.finish-closed.ensures.code;
-      history = c.finish-closed.ensures.history B.begins.run (is_some c.args.archive) R empty room;
-      listed = c.finish-closed.ensures.listed B.begins.run (is_some c.args.archive) R empty room;
+      history = c.finish-closed.ensures.history B.begins.run (is_some c.args.archive) R
+          B.begins.is_run.live_is empty room;
+      listed = c.finish-closed.ensures.listed B.begins.run (is_some c.args.archive) R
+          B.begins.is_run.live_is empty room;
     }
 
 pub returns-in_err-machine : goal.returns-in_err-machine

@@ -1,5 +1,5 @@
 use Rattle.std.proofs.Common.{List, ap, length, refl, subst, sym, ◌∙◌}
-use Rattle.redo_ownrule.proofs.Finished.{actors_fit, actors_of, all_groups, all_out, closes, finished, its_list}
+use Rattle.redo_ownrule.proofs.Finished.{actors_fit, actors_of, all_groups, all_kept, all_out, closes, finished, its_list}
 use Rattle.redo_ownrule.proofs.Left.{leaves_players}
 use Rattle.redo_ownrule.proofs.Losses.{its_losses}
 use Rattle.redo_ownrule.proofs.shared.Shared.finish.Goals as goal
@@ -85,7 +85,10 @@ returns g c =
     c.close_table-log.result c.give_actors-actors.result.items F c.requires.fixed
     c.as_slice-2.result.now c.as_slice-2.ensures.value _
     (c.requires.seated.ready.room c.requires.fixed) c.history_of-history.result
-    (c.history_of-history.ensures c.requires.seated.ready.no_entries) in
+    (c.history_of-history.ensures (all_kept g.L.Sectors.seen g.L.Sectors.gives g.D.Sectors.seen g.D.Sectors.gives
+    c.args.self.board.shared.key (own_of c.args.self) (heard_by c.args.seats.items) c.args.players.items
+    c.close_table-log.result c.give_actors-actors.result.items F c.requires.fixed
+    c.as_slice-2.result.now c.as_slice-2.ensures.value) c.requires.seated.ready.no_entries) in
     let loss = its_losses c.args.self.board.shared.key.archive F.work c.args.players.items
     c.give_actors-actors.result.items F.are c.args.lost c.requires.lost in
     let own = leaves_own g.L.Sectors.seen g.L.Sectors.gives g.D.Sectors.seen g.D.Sectors.gives
