@@ -29,7 +29,7 @@ use Rattle.redo_ownrule.specs.declared.player.Player.{Player}
 use Rattle.redo_ownrule.specs.declared.player.Player.TheVariants as player
 use Rattle.redo_rule.specs.Cutting.{HoldNothing}
 use Rattle.redo_rule.specs.Ending.{RunReaches}
-use Rattle.redo_rule.specs.Handing.{HaveHandedOn, HaveLoaded}
+use Rattle.redo_rule.specs.Handing.{HaveHandedOn, HaveLoaded, HaveRead}
 use Rattle.redo_rule.specs.OwnSide.{desk_with, HasItsWork, OwnSide, SitsAs, work_of}
 use Rattle.redo_rule.specs.Ruled.{Knows, Ruled, starts_about}
 use Rattle.redo_rule.specs.Seating.{HasPart, IsCleaner}
@@ -71,6 +71,7 @@ record GoesOn {L D : Type 0} (log_seen : L → Seen) (data_seen : D → Seen) (a
   pub runs : RunsWith log_seen data_seen run archive parts actors
   pub hears : HaveHandedOn (run_log_side log_seen data_seen run) run.setup.base parts.log heard actors
       runs.running.log_ghost.log
+  pub reads : HaveRead run.setup parts.words.words heard runs.running.log_ghost.log
   pub loaded : HaveLoaded parts.words.words actors
 
 -- these are the actors of the players with the log's work, and at rest
@@ -178,7 +179,7 @@ module _ {L D R : Type 0} (log_seen : L → Seen) (log_gives : L → Call → L 
       let s = final.0 in
       let A = its_actors in
       let now = subst (GoesOn log_seen data_seen about.archive Q.run Q.parts Q.heard) A.are
-      (record { runs = Q.runs; hears = Q.hears; loaded = Q.loaded }) in
+      (record { runs = Q.runs; hears = Q.hears; reads = Q.reads; loaded = Q.loaded }) in
       let free : (k : ℕ) → k < 5 → slice_index s.words (7 + k) ≡ 0 = λ k l.
       elim (ℕ_discrete (slice_index s.words (7 + k)) 0) [
         | yes z ↦ z
@@ -202,6 +203,7 @@ module _ {L D R : Type 0} (log_seen : L → Seen) (log_gives : L → Call → L 
           parts = Q.parts;
           runs = now.runs;
           hears = now.hears;
+          reads = now.reads;
           loaded = now.loaded;
           words_are = Q.words_are ∙ final.2;
           beside = Q.beside;

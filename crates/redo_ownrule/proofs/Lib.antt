@@ -26,6 +26,7 @@ pub mod OwnLoading
 pub mod OwnMay
 pub mod OwnOps
 pub mod OwnPlaying
+pub mod OwnReads
 pub mod OwnStepping
 pub mod OwnTakes
 pub mod OwnTold

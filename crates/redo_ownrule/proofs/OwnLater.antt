@@ -119,4 +119,5 @@ same_seat {L} {D} {R} stands v w p o x is keeps =
       appended = [];
       blocks = ap (λ (h : Heard). h.blocks) keeps.heard ∙ sym (append-nil (heard_of v).blocks);
       got = tt;
+      reads = ap (λ (h : Heard). h.reads) keeps.heard;
     })

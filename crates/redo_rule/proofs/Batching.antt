@@ -224,6 +224,7 @@ module _ {L D R : Type 0} {table : TableId} {seat : Seat (Slot L D) (View L D)} 
                   appended = l.appended;
                   blocks = l.blocks;
                   got = l.got;
+                  reads = l.reads;
                 }
 
                 turn : HasPlayed log_seen data_seen (view_reaching seat.me.0 d) (view_of old) step (view_of new)

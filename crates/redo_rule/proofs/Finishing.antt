@@ -173,6 +173,7 @@ module _ {L D : Type 0} (log_seen : L → Seen) (log_gives : L → Call → L �
       last = E.parts;
       runs = E.runs;
       hears = E.hears;
+      reads = E.reads;
       loaded = E.loaded;
       log_calls = E.log_calls;
       data_calls = E.data_calls;

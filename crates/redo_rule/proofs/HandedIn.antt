@@ -48,6 +48,7 @@ use Rattle.redo_drive.specs.Startable.{HasReading}
 use Rattle.redo_rule.proofs.GrownScript.{all_snoc, of_grown}
 use Rattle.redo_rule.proofs.Kept as kept
 use Rattle.redo_rule.proofs.OwnStays.{work_beside}
+use Rattle.redo_rule.proofs.PagesRead.{reads_grown}
 use Rattle.redo_rule.proofs.Retook.{one_head}
 use Rattle.redo_rule.specs.HandIn.{handed_in, line_about, numbered_with, view_with, with_line}
 use Rattle.redo_rule.specs.Handing.{HasHandedOn, HaveHandedOn, HaveLoaded}
@@ -413,6 +414,7 @@ module _ {L D : Type 0} (log_seen : L → Seen) (log_gives : L → Call → L �
         own = work_beside (run_log_side log_seen data_seen R.run) R.parts.log R.beside.own R.actors x.number b
             (subst (λ (e : Option Errand). SitsAs R.beside.own e x.number) plain (known.errand 0 x first)) R.own;
         hears = hears;
+        reads = λ n. reads_grown c u.user more R.parts.words.words R.runs.running.log_ghost.log (R.heard n) (R.reads n);
         loaded = loaded;
         count = length-set R.actors x.number b;
         told = told;

@@ -49,9 +49,10 @@ use Rattle.model_core.proofs.Hands.{stays_free}
 use Rattle.redo_rule.proofs.Filled.{free_filled, stored_before}
 use Rattle.redo_rule.proofs.Hearing.{hears_then, heard_else, heard_here, heard_then}
 use Rattle.redo_rule.proofs.Loading.{loaded_then}
+use Rattle.redo_rule.proofs.PagesRead.{reads_then}
 use Rattle.model_core.specs.Hands.{GivesFailed, hand, IsFreeToCheck}
 use Rattle.redo_rule.proofs.OwnStays.{work_stays, worker_holds}
-use Rattle.redo_rule.specs.Handing.{appended_by, HaveHandedOn, HaveLoaded, with_more}
+use Rattle.redo_rule.specs.Handing.{appended_by, HaveHandedOn, HaveLoaded, HaveRead, with_more}
 use Rattle.redo_rule.specs.OwnSide.{Beside, desk_with, HasItsWork, OwnSide, SitsAs}
 use Rattle.redo_rule.specs.Plays.{behind, MayGo, Shown, Stepped, view_behind}
 use Rattle.redo_rule.specs.Ruled.{IsRunAbout, IsSlotHeld, Knows, Ruled, slot_content}
@@ -248,6 +249,7 @@ module _ {L D : Type 0} (log_seen : L → Seen) (log_gives : L → Call → L �
     pub own : HasItsWork (run_log_side log_seen data_seen run) new.log beside.own after
     pub hears : HaveHandedOn (run_log_side log_seen data_seen run) run.setup.base new.log heard after
         runs.running.log_ghost.log
+    pub reads : HaveRead run.setup new.words.words heard runs.running.log_ghost.log
     pub loaded : HaveLoaded new.words.words after
     pub count : length after ≡ length R.actors
     pub told : (n : ℕ) (c : model.Actor) (code : ℕ) → get_elem? after n ≡ maybe.some c → GivesFailed c code
@@ -345,6 +347,7 @@ module _ {L D : Type 0} (log_seen : L → Seen) (log_gives : L → Call → L �
         own = left.own;
         runs = left.runs;
         hears = left.hears;
+        reads = left.reads;
         loaded = left.loaded;
         count = left.count ∙ R.count;
         log_calls = log_calls;
@@ -518,6 +521,9 @@ module _ {L D : Type 0} (log_seen : L → Seen) (log_gives : L → Call → L �
           own_is = ap (λ (z : Option OwnSide). is_some z) same_own;
           own = own_behind;
           hears = hears_behind;
+          reads = reads_then log_seen data_seen R.run R.parts new R.actors after x.number r (step_of (filled a f) r)
+              (laws_of_log log_seen data_seen R.run) (laws_of_data log_seen data_seen R.run) same R.runs turn R.heard
+              (handed_by (filled a f)) (appended_by a) R.reads;
           loaded = loaded_then log_seen data_seen R.run R.parts new R.actors after x.number r (step_of (filled a f) r) R.runs
               turn R.loaded;
           count = length-set R.actors x.number b;

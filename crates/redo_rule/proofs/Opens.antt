@@ -222,6 +222,7 @@ module _ {L D R : Type 0} (log_seen : L → Seen) (log_gives : L → Call → L 
           B.from.runs.running.both.logged.global.tiled.tiles (B.at_start.starts.each n a at));
       blocks = tt;
     };
+    reads = λ n. record { done = tt; now = tt };
     loaded = λ n r at. none_loaded B.run.setup B.at_start.seat_of B.at_start.writer n
         (slice_index start.parts.words.words flushed_at) r (B.at_start.starts.each n (model.Reader r) at);
     count = ap length (starts_so log_seen data_seen stands about script live followers firsts start B told);

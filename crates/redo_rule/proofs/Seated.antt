@@ -134,6 +134,7 @@ module _ {L D : Type 0} (log_seen : L → Seen) (log_gives : L → Call → L �
         lists_are = R.lists_are;
         runs = R.runs;
         hears = R.hears;
+        reads = R.reads;
         loaded = R.loaded;
         count = R.count;
         log_calls = R.log_calls;
@@ -232,6 +233,7 @@ module _ {L D : Type 0} (log_seen : L → Seen) (log_gives : L → Call → L �
         lists_are = R.lists_are;
         runs = R.runs;
         hears = R.hears;
+        reads = R.reads;
         loaded = R.loaded;
         count = R.count;
         log_calls = R.log_calls;

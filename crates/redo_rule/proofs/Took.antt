@@ -151,6 +151,7 @@ rested stands v old step new is free h =
         blocks = sym (append-nil (heard_of v).blocks);
         got = subst (λ (l : List Given). HasGot stands (follower_of old) l (follower_of new))
             (ap handed_by same ∙ plain_hands a free plain) t.got;
+        reads = refl;
       },
     )
 
@@ -224,6 +225,8 @@ module _ {L D R : Type 0} (table : TableId) (log_seen : L → Seen) (data_seen :
         appended = appended_by (view_of old);
         blocks = blocks_then;
         got = t.got;
+        reads = ap (λ (w : View L D). (heard_of w).reads) view
+            ∙ ap (λ (h : Heard). h.reads) (sym (ap heard_in one));
       }
 
   pub leaves : last.id ≡ seat.id → (Mine table last (view_of new) → IsSeatOf table last (view_of new))

@@ -23,7 +23,7 @@ use Rattle.redo_drive.specs.declared.drive.RunEnd.TheVariants as ended
 use Rattle.redo_drive.specs.declared.closed.Closed.{Closed}
 use Rattle.redo_store.specs.declared.opened.Opened.{Opened}
 use Rattle.redo_rule.specs.Ending.{RunReaches}
-use Rattle.redo_rule.specs.Handing.{HaveHandedOn, HaveLoaded}
+use Rattle.redo_rule.specs.Handing.{HaveHandedOn, HaveLoaded, HaveRead}
 use Rattle.redo_rule.specs.OwnSide.{work_of}
 use Rattle.redo_rule.specs.Ruled.{IsRunAbout, Ruled}
 use Rattle.redo_rule.specs.declared.closing.Left.{Left}
@@ -51,6 +51,7 @@ module _ {L D : Type 0} (log_seen : L → Seen) (log_gives : L → Call → L �
     pub last : Parts L D
     pub runs : RunsWith log_seen data_seen run about.archive last actors
     pub hears : HaveHandedOn (run_log_side log_seen data_seen run) run.setup.base last.log heard actors runs.running.log_ghost.log
+    pub reads : HaveRead run.setup last.words.words heard runs.running.log_ghost.log
     pub loaded : HaveLoaded last.words.words actors
     pub log_calls : CallsOn log_gives about.opened.value.log.dev about.opened.value.log.failed last.log.dev last.log.failed
     pub data_calls : CallsOn data_gives about.opened.value.store.dev about.opened.value.store.failed last.store.dev last.store.failed

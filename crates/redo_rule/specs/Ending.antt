@@ -11,7 +11,7 @@ use Rattle.redo_drive.specs.Lists.{listing_at}
 use Rattle.redo_drive.specs.Playing.{RunOf, run_log_side}
 use Rattle.redo_drive.specs.Running.{RunsWith}
 use Rattle.redo_drive.specs.declared.parts.Parts.{Parts}
-use Rattle.redo_rule.specs.Handing.{HaveHandedOn, HaveLoaded}
+use Rattle.redo_rule.specs.Handing.{HaveHandedOn, HaveLoaded, HaveRead}
 use Rattle.redo_rule.specs.OwnSide.{Beside, desk_with}
 use Rattle.redo_rule.specs.Ruled.{IsRunAbout}
 use Rattle.redo_rule.specs.declared.law.About.{About}
@@ -29,6 +29,7 @@ pub record RunReaches {L D : Type 0} (log_seen : L → Seen) (log_gives : L → 
   pub parts : Parts L D
   pub runs : RunsWith log_seen data_seen run about.archive parts actors
   pub hears : HaveHandedOn (run_log_side log_seen data_seen run) run.setup.base parts.log heard actors runs.running.log_ghost.log
+  pub reads : HaveRead run.setup parts.words.words heard runs.running.log_ghost.log
   pub loaded : HaveLoaded parts.words.words actors
   pub words_are : parts.words.words ≡ words
   pub beside : Beside

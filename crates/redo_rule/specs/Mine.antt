@@ -39,7 +39,7 @@ abbrev pub heard_of : {L D : Type 0} → View L D → Heard
 heard_of v = heard_in v.seats
 
 -- THE SEAT OF AN ACTOR, LATER. It keeps its number, and what it knows of its table and its words; the groups that it has heard since, the
--- actor's receiver got; and it has appended no fewer blocks.
+-- actor's receiver got; it has appended no fewer blocks; and no page was read in it.
 pub record IsSameSeat {L D R : Type 0} (stands : R → List Given → Type 0) (v : View L D) (a : Actor R) (w : View L D) (b : Actor R) : Type 0 where
   pub about : w.about ≡ v.about
   pub number : number_of w ≡ number_of v
@@ -50,6 +50,7 @@ pub record IsSameSeat {L D R : Type 0} (stands : R → List Given → Type 0) (v
   pub appended : List Block
   pub blocks : (heard_of w).blocks ≡ (heard_of v).blocks ++ appended
   pub got : HasGot stands (follower_of a) since (follower_of b)
+  pub reads : (heard_of w).reads ≡ (heard_of v).reads
 
 -- THE SEAT IS AT THIS TABLE, its view is the actor's state, it has the slot that the actor holds, and the actor may go on. It
 -- plays by its own program alone.

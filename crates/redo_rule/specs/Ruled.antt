@@ -23,7 +23,7 @@ use Rattle.redo_drive.specs.Setups.{seated_actors}
 use Rattle.redo_drive.specs.declared.parts.Parts.{Parts}
 use Rattle.redo_words.specs.{shape_layout}
 use Rattle.model_core.specs.Hands.{GivesFailed, hand, IsFreeToCheck}
-use Rattle.redo_rule.specs.Handing.{HaveHandedOn, HaveLoaded, nothing}
+use Rattle.redo_rule.specs.Handing.{HaveHandedOn, HaveLoaded, HaveRead, nothing}
 use Rattle.redo_rule.specs.Lively.{HasRoom}
 use Rattle.redo_rule.specs.OwnSide.{Beside, desk_with, HasItsWork, SitsAs}
 use Rattle.redo_rule.specs.Places.{HasTurn, turn_word}
@@ -144,6 +144,7 @@ pub record Ruled {L D : Type 0} (log_seen : L → Seen) (log_gives : L → Call 
   pub own : HasItsWork (run_log_side log_seen data_seen run) parts.log beside.own actors
   pub runs : RunsWith log_seen data_seen run about.archive parts actors
   pub hears : HaveHandedOn (run_log_side log_seen data_seen run) run.setup.base parts.log heard actors runs.running.log_ghost.log
+  pub reads : HaveRead run.setup parts.words.words heard runs.running.log_ghost.log
   pub loaded : HaveLoaded parts.words.words actors
   pub count : length actors ≡ length (starts_about about)
   pub log_calls : CallsOn log_gives about.opened.value.log.dev about.opened.value.log.failed parts.log.dev parts.log.failed

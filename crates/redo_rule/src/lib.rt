@@ -19,6 +19,7 @@ mod laying;
 mod listing;
 mod playing;
 mod plays;
+mod reading;
 mod resting;
 mod seating;
 mod slots;
@@ -34,6 +35,7 @@ pub use law::{
 pub use laying::{lay_out, make_board, parts_in};
 pub use listing::{list_slot, list_turn};
 pub use playing::play;
+pub use reading::look;
 pub use plays::Looked;
 pub use resting::holds_nothing;
 pub use seating::{cut_off, cut_seat, take_in};
