@@ -1,4 +1,6 @@
+mod Empty
 pub mod Heard
+pub mod Kept
 pub mod LinePlaces
 pub mod Lines
 pub mod Pages

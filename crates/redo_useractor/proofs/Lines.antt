@@ -2,9 +2,8 @@
 use Rattle.std.proofs.Common.{Bool, List, Some, [], ap, cond, false, get_or, length, sym, true, ℕ, ◌<◌, ◌∙◌, ◌≡◌}
 use Rattle.std.proofs.lemmas.Option.{slice_get-get_or}
 use Rattle.model_base.specs.declared.shape.Shape.{Shape}
-use Rattle.model_core.specs.{line_of}
+use Rattle.model_core.specs.{line_of, Line}
 unfoldable use Rattle.model_core.specs.Changes.{collected}
-use Rattle.model_core.specs.{Line}
 use Rattle.model_log.specs.{group_text}
 use Rattle.model_log.specs.declared.rec.Rec.{Rec}
 use Rattle.redo_useractor.proofs.Pages.{changes_are}

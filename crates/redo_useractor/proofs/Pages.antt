@@ -4,9 +4,8 @@ use Rattle.std.proofs.lemmas.Bool.{and_cases, and_parts, cond-false, cond-true, 
 use Rattle.std.proofs.lemmas.List.{map-append}
 use native.Mathlib.Decide.{dec_le}
 use Rattle.model_base.specs.declared.shape.Shape.{Shape}
-use Rattle.model_core.specs.{changed_cells, change_on}
+use Rattle.model_core.specs.{changed_cells, change_on, PageChange}
 unfoldable use Rattle.model_core.specs.Changes.{collected}
-use Rattle.model_core.specs.{PageChange}
 use Rattle.model_log.specs.{page_of}
 use Rattle.model_log.specs.declared.rec.Rec.{Rec}
 use Rattle.model_store.specs.{touches}

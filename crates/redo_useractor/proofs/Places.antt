@@ -6,10 +6,9 @@ use Rattle.std.proofs.lemmas.Bool.{eq-eqb, eqb-true, le-leb, le-ltb, lt-leb, lt-
 use Rattle.model_base.specs.{user_length}
 use Rattle.model_base.specs.declared.limits.TheConstants.{MAX_PAGE_SIZE}
 use Rattle.model_base.specs.declared.shape.Shape.{Shape}
-use Rattle.model_core.specs.{after_from, cell_where_same, changed_cells}
+use Rattle.model_core.specs.{after_from, cell_where_same, changed_cells, CellWrite, is_whole, same_word, word_step}
 unfoldable use Rattle.model_core.specs.Changes.{collected}
 use Rattle.std.specs.Prelude.{nat_le}
-use Rattle.model_core.specs.{CellWrite, is_whole, same_word, word_step}
 use Rattle.model_core.specs.declared.steps.UserStep.{UserStep}
 use Rattle.model_core.specs.declared.steps.UserStep.TheVariants as user_step
 use Rattle.model_log.specs.declared.rec.Rec.{Rec}

@@ -3,10 +3,9 @@
 use Rattle.std.proofs.Common.{Bool, ap, arith, cond, eq-eqb, false, length, min, nat_lt, ne_eqb, refl, subst, sym, true, ℕ, ⊎_elim, ◌+◌, ◌-◌, ◌/◌, ◌<◌, ◌==◌, ◌∙◌, ◌≡◌, ◌≢◌, ◌≤◌}
 use Rattle.std.proofs.lemmas.Bool.{cases_eq}
 use Rattle.model_core.specs.ActorProgram.{opposite}
-use Rattle.model_core.specs.{advance_next, advance_took, can_link, changes, checked, copy_place, frees, group_bytes, group_end, has_room, heard, left_in_word, loaded_tail, mode, next_count, old_of, own_took, stays_put, step_of, tail_of, took, user_took, user_waits, UserState, with_link_room, without_link_room}
-use Rattle.model_core.specs.Actors as actor
-use Rattle.model_core.specs.Waiting.{ending}
-use Rattle.model_core.specs.Actors.{Actor}
+use Rattle.model_core.specs.{advance_next, advance_took, can_link, changes, checked, copy_place, frees, group_bytes, group_end, has_room, heard, left_in_word, loaded_tail, mode, next_count, old_of, own_took, stays_put, step_of, tail_of, took, user_took, user_waits, UserState, with_link_room, without_link_room, Actor}
+use Rattle.model_core.specs.States as actor
+use Rattle.model_core.specs.Program.{ending}
 use Rattle.model_core.specs.declared.ops.Answer.{Answer}
 use Rattle.model_core.specs.declared.ops.Step.TheVariants as step
 use Rattle.model_core.specs.declared.steps.UserStep.{UserStep}

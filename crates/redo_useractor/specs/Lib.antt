@@ -1,3 +1,5 @@
+pub mod BookView
+pub mod Books
 pub mod CellsStep
 pub mod Ending
 pub mod Handing

@@ -1,5 +1,5 @@
 -- What the fields of a user stand for.
-use Rattle.std.specs.Prelude.{length, vec_capacity, vec_len, ℕ, ◌+◌, ◌<◌, ◌≡◌, ◌≤◌}
+use Rattle.std.specs.Prelude.{length, ℕ, ◌+◌, ◌<◌, ◌≡◌}
 use Rattle.model_core.specs.{answer_limit, cells_of, changes, group_bytes, group_end, line_at, UserState}
 use Rattle.model_core.specs.declared.steps.UserStep.{UserStep}
 use Rattle.model_core.specs.declared.steps.UserStep.TheVariants as user_step
@@ -12,9 +12,10 @@ abbrev pub user_view : Inside → UserState
 user_view u = record {
   user = u.user;
   blocks = u.blocks;
-  lines = u.lines.items;
-  starts = u.starts.items;
-  k = u.k;
+  keeps = u.book.keeps;
+  lines = u.book.lines;
+  starts = u.book.starts;
+  k = u.book.k;
   start = u.start;
   copied = u.copied;
   page = u.page;
@@ -33,19 +34,19 @@ end_limit = answer_limit + 1
 
 -- a line is left, and no group is in hand
 pub record BeforeGroup (u : Inside) : Type 0 where
-  pub line : u.k < length u.lines.items
-  pub none : vec_len u.starts ≡ u.k
+  pub line : u.book.k < length u.book.lines
+  pub none : length u.book.starts ≡ u.book.k
 
 -- the group of a line is in hand, and ends at an sn
 pub record HasGroup (u : Inside) : Type 0 where
-  pub line : u.k < length u.lines.items
+  pub line : u.book.k < length u.book.lines
   pub small : group_end (user_view u) < end_limit
-  pub one : vec_len u.starts ≡ u.k + 1
+  pub one : length u.book.starts ≡ u.book.k + 1
 
 -- no line is left, and no group is in hand
 pub record AfterAll (u : Inside) : Type 0 where
-  pub all : u.k ≡ length u.lines.items
-  pub none : vec_len u.starts ≡ u.k
+  pub all : u.book.k ≡ length u.book.lines
+  pub none : length u.book.starts ≡ u.book.k
 
 -- it is at one of the group's pages
 abbrev pub IsAtPage : Inside → Type 0
@@ -84,6 +85,5 @@ IsAt u _ = HasGroup u × IsAtPage u
 
 pub record IsUser (u : Inside) : Type 0 where
   pub ckpt : u.loaded.ckpt < answer_limit
-  pub room : length u.lines.items ≤ vec_capacity u.starts
-  pub some_bytes : (j : ℕ) → j < length u.lines.items → 0 < length (line_at u.lines.items j).bytes
+  pub some_bytes : (j : ℕ) → j < length u.book.lines → 0 < length (line_at u.book.lines j).bytes
   pub step : IsAt u u.step

@@ -1,5 +1,6 @@
 // The state of a user.
-use crate::line::{Place, UserLine};
+use crate::book::Book;
+use crate::line::Place;
 use model_core::UserStep;
 use redo_link::Advance;
 use std::marker::Model;
@@ -23,14 +24,13 @@ impl Model for Marks {
 }
 
 /// A user: it reserves a place for the group of each of its lines in order, copies the group there, changes its pages, and
-/// awaits the mark that its line names. Contracts see its state.
-#[derive(Debug, Drop)]
+/// awaits the mark that its line names. Contracts see its state, with all its lines. In memory it holds all of them, or, if it
+/// began with none, the last one alone.
+#[derive(Drop)]
 pub struct UserActor {
     pub(crate) user: u32,
     pub(crate) blocks: u32,
-    pub(crate) lines: Vec<UserLine>,
-    pub(crate) starts: Vec<u64>,
-    pub(crate) k: usize,
+    pub(crate) book: Book,
     pub(crate) start: u64,
     pub(crate) copied: usize,
     pub(crate) page: usize,

@@ -1,6 +1,6 @@
 // What a user asks for.
 ghost use Rattle.std.specs.Prelude.{◌≡◌, ◌<◌, ◌≤◌, ◌+◌, ◌-◌, ◌%◌, ◌/◌, ◌^◌, length, nat_lt};
-ghost use Rattle.model_core.specs.Actors as actor;
+ghost use Rattle.model_core.specs.States as actor;
 ghost use Rattle.model_core.specs.{cell_of, cells_of, change_at, changes, copy_place, frame_count, frame_word, group_bytes, group_end, lane_of, left_in_word, lent, line, lsn, next_count, next, current_page, put_of, stored_word, user_op};
 ghost use Rattle.redo_useractor.specs.ToLink.{data_word, first_stores, to_link, words_to_copy};
 ghost use Rattle.redo_words.specs.{Lends};
@@ -33,7 +33,7 @@ impl UserActor {
         requires { self.now.k < length self.now.lines }
         ensures { result.now ≡ line self.now }
     {
-        &self.lines[self.k]
+        self.book.line()
     }
 
     fn page_number(&self) -> u32
@@ -45,7 +45,7 @@ impl UserActor {
     }
 
     /// The lsn at which the group in hand starts.
-    #[tactic(auto, unfolding(model_core::specs::Lsn::lsn))]
+    #[tactic(auto, unfolding(model_core::specs::Lanes::lsn))]
     pub(crate) fn start_lsn(&self) -> u64
         requires { self.now.start < end_limit }
         ensures value { result ≡ lsn self.now.start }
@@ -55,7 +55,7 @@ impl UserActor {
     }
 
     /// The lsn at which it ends.
-    #[tactic(auto, unfolding(model_core::specs::Lsn::lsn))]
+    #[tactic(auto, unfolding(model_core::specs::Lanes::lsn))]
     pub(crate) fn end_lsn(&self) -> u64
         requires line { self.now.k < length self.now.lines }
         requires small { group_end self.now < end_limit }
@@ -66,7 +66,7 @@ impl UserActor {
     }
 
     /// Its length, as a distance of lsns.
-    #[tactic(auto, unfolding(model_core::specs::Lsn::lsn))]
+    #[tactic(auto, unfolding(model_core::specs::Lanes::lsn))]
     fn link(&self) -> u64
         requires line { self.now.k < length self.now.lines }
         requires small { group_end self.now < end_limit }

@@ -21,7 +21,7 @@ impl UserActor {
         ensures same { self.new ≡ self.old }
         ensures place { IsNextCell (change_at (changes self.old) page).cells result.word result.count (cells_before word (change_at (changes self.old) page).cells) }
     {
-        self.lines[self.k].place_from(page, word)
+        self.book.place_from(page, word)
     }
 
     /// It goes on at this place of a page, after so many of the changed cells there.

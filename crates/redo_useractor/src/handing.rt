@@ -6,7 +6,6 @@ ghost use Rattle.redo_useractor.specs.Handing.{with_line};
 ghost use Rattle.redo_useractor.specs.Lines.{IsUserLine};
 
 use crate::actor::UserActor;
-use crate::making::line_of;
 use model_base::Shape;
 use model_core::UserStep;
 use model_log::Group;
@@ -14,8 +13,8 @@ use redo_lsn::NoMemory;
 use std::alloc::Global;
 
 impl UserActor {
-    /// Goes on to one line more, a user that has done all that it had. It takes the room for all that the line needs. Where
-    /// there is none the user is as it was, and the group comes back.
+    /// Goes on to one line more, a user that has done all that it had. It takes the room for all that the line needs, and frees
+    /// the line before unless it keeps all. Where there is no room the user is as it was, and the group comes back.
     pub fn take_line(
         &mut self,
         alloc: Global,
@@ -30,16 +29,7 @@ impl UserActor {
         ensures ok { IfOk result (λ _. self.new ≡ with_line self.old (line_of log_only shape.now mode group)) }
         ensures err { IfErr result (λ back. (self.new ≡ self.old) × (back.1 ≡ group)) }
     {
-        match self.lines.reserve(1) {
-            Ok(()) => {}
-            Err(_) => return Err((NoMemory, group)),
-        }
-        match self.starts.reserve(1) {
-            Ok(()) => {}
-            Err(_) => return Err((NoMemory, group)),
-        }
-        let line = line_of(alloc, shape, log_only, mode, group)?;
-        self.lines.push_reserved(line);
+        self.book.take_line(alloc, mode, group, shape, log_only)?;
         self.checks = true;
         self.step = UserStep::LoadCheckpoint;
         Ok(())

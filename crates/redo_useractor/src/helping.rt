@@ -1,6 +1,6 @@
 // What a user that writes for itself does with its own state beside its program.
 ghost use Rattle.std.specs.Prelude.{◌≡◌, false, true};
-ghost use Rattle.model_own.specs.OwnWrites.{begins_again, flushes_at, helps_at, keeps_helped, loads_again};
+ghost use Rattle.model_own.specs.{begins_again, flushes_at, helps_at, keeps_helped, loads_again};
 
 use crate::actor::UserActor;
 use model_core::UserStep;

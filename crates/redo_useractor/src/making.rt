@@ -8,6 +8,7 @@ ghost use Rattle.redo_useractor.specs.Places.{page_if_touched};
 ghost use Rattle.redo_useractor.specs.Program.{program_lines};
 
 use crate::actor::{Marks, UserActor};
+use crate::book::Book;
 use crate::changes::touched_pages;
 use crate::line::{Place, UserLine};
 use crate::runs::Run;
@@ -88,7 +89,8 @@ fn lines_of(
 
 impl UserActor {
     /// The user of this number with these lines, each a mode and a group. It takes the room for all that it will hold: the
-    /// texts of its groups, the pages that each is on, and where each starts. With the log alone no page is changed.
+    /// texts of its groups, the pages that each is on, and where each starts. With the log alone no page is changed. A user that
+    /// begins with no line keeps none of those that it is handed in once they are done.
     pub fn new(
         alloc: Global,
         user: u32,
@@ -101,8 +103,8 @@ impl UserActor {
         ensures { IfOk result (λ actor. actor ≡ new_user user (run_layout shape.now).blocks (program_lines log_only shape.now lines.items)) }
     {
         let made = lines_of(alloc, shape, log_only, lines)?;
-        let starts = Vec::with_capacity(alloc, made.len())?;
         let has_lines = !made.is_empty();
+        let book = Book::new(alloc, made)?;
         let loaded = Marks {
             ckpt: 0,
             write: 0,
@@ -118,9 +120,7 @@ impl UserActor {
         Ok(UserActor {
             user,
             blocks: run_layout(shape).blocks as u32,
-            lines: made,
-            starts,
-            k: 0,
+            book,
             start: 0,
             copied: 0,
             page: 0,

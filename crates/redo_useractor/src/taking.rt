@@ -1,8 +1,7 @@
 // What a user makes of the answers.
 ghost use Rattle.std.specs.Prelude.{◌≡◌, ◌≢◌, ◌<◌, ◌+◌, ◌^◌, ◌==◌, false, if◌then◌else◌, length, true};
-ghost use Rattle.model_core.specs.Actors as actor;
-ghost use Rattle.model_core.specs.AnswerFits.{AnswerFits};
-ghost use Rattle.model_core.specs.{after_link, answer_limit, answered, checked_of, group_bytes, group_end, has_space, step_of, took, user_ending, user_program, user_took};
+ghost use Rattle.model_core.specs.States as actor;
+ghost use Rattle.model_core.specs.{AnswerFits, after_link, answer_limit, answered, checked_of, group_bytes, group_end, has_space, step_of, took, user_ending, user_program, user_took};
 ghost use Rattle.redo_useractor.specs.Ending.{step_end};
 ghost use Rattle.redo_useractor.specs.ToLink.{lacks_room, linking_steps, to_link};
 ghost use Rattle.redo_useractor.specs.UserView.{end_limit};
@@ -45,8 +44,7 @@ impl UserActor {
         ensures state { self.new ≡ answered self.old }
         ensures step { result ≡ (if self.old.k + 1 == length self.old.lines then Step.Ended else Step.Moved) }
     {
-        self.k += 1;
-        if self.k == self.lines.len() {
+        if self.book.pass() {
             self.checks = false;
             self.step = UserStep::Done;
             return Step::Ended;
@@ -72,7 +70,7 @@ impl UserActor {
     }
 
     /// Whether the log has space beyond this SN for groups that have begun.
-    #[tactic(auto, unfolding(model_core::specs::Lsn::lsn))]
+    #[tactic(auto, unfolding(model_core::specs::Lanes::lsn))]
     fn has_space(&self, sn: u64) -> bool
         requires { sn < answer_limit }
         ensures { result ≡ has_space self.now sn }
@@ -130,7 +128,7 @@ impl UserActor {
         ensures state { self.new ≡ user_took self.old n UserStep.Reserve }
         ensures step { result ≡ step_end self.old n UserStep.Reserve self.new }
     {
-        self.starts.push_reserved(n);
+        self.book.start(n);
         self.start = n;
         self.copied = 0;
         self.page = 0;

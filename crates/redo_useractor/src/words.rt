@@ -24,7 +24,7 @@ pub(crate) fn count_in(user_bytes: usize, recs: &[Rec], page: u32, word: usize) 
 }
 
 /// A word of this page's frame with what the records write there.
-#[tactic(auto, unfolding(model_core::specs::Packing::packed, model_core::specs::Packing::lanes))]
+#[tactic(auto, unfolding(model_core::specs::Lanes::packed, model_core::specs::Lanes::lanes))]
 pub(crate) fn with_written(user_bytes: usize, recs: &[Rec], page: u32, word: usize, old: u64) -> u64
     requires { word < words_end }
     ensures { result ≡ packed 0 (put_lanes (word_cells user_bytes page recs.now word) (lanes 0 WORD_LANES old)) }

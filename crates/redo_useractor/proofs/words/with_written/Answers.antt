@@ -1,6 +1,6 @@
 use Rattle.std.proofs.Common.{List, ap, arith, sym, ◌∙◌}
 use Rattle.model_core.specs.{CellWrite, put_lanes}
-unfoldable use Rattle.model_core.specs.Packing.{lanes}
+unfoldable use Rattle.model_core.specs.Lanes.{lanes}
 use Rattle.redo_useractor.proofs.WordCells.{no_lane, put_none, put_some}
 use Rattle.redo_useractor.proofs.words.with_written.Goals as goal
 use Rattle.redo_useractor.proofs.words.with_written.Goals.{in-Some, in-None}

@@ -1,4 +1,4 @@
-use Rattle.std.proofs.Common.{arith, length, subst, sym, ◌+◌, ◌<◌, ◌≡◌}
+use Rattle.std.proofs.Common.{length, subst, sym, ◌+◌, ◌<◌, ◌≡◌}
 use Rattle.model_core.specs.{change_at, changes, group_end, UserState}
 use Rattle.redo_useractor.proofs.UserSteps.{at_step}
 use Rattle.redo_useractor.specs.Places.{IsNextCell}
@@ -13,13 +13,12 @@ invariant_of-self c =
     let group : HasGroup u = record {
       line = subst (λ (s : UserState). s.k < length s.lines) (sym c.self.view_is) c.requires.line;
       small = subst (λ (s : UserState). group_end s < end_limit) (sym c.self.view_is) c.requires.small;
-      one = omega (arith, c.self.inside.starts.ok.0);
+      one = one;
     } in
     let page : IsAtPage u = subst (λ (s : UserState). c.args.page < length (changes s)) (sym c.self.view_is) c.requires.page in
     let here = subst (λ (s : UserState). IsNextCell (change_at (changes s) c.args.page).cells c.args.at.word c.args.at.count c.args.cell) (sym c.self.view_is) c.requires.place in
     record {
       ckpt = c.self.invariant.ckpt;
-      room = c.self.invariant.room;
       some_bytes = c.self.invariant.some_bytes;
       step = subst (IsAt u) (sym (c.step-self-inside.ensures (change_at (changes (user_view u)) c.args.page).cells c.args.cell here)) (at_step u group page here);
     }
