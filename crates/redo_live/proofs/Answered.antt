@@ -1,23 +1,23 @@
 -- A user plays to its end, and what it was answered.
-use Rattle.std.proofs.Common.{List, [], ap, arith, inr, length, length-append, refl, subst, sym, ℕ, ⊎_elim, ◌++◌}
+use Rattle.std.proofs.Common.{List, [], ap, append-nil, arith, inr, length, length-append, refl, subst, sym, ℕ}
+use Rattle.std.proofs.Common.{⊎_elim, ◌++◌}
 use Rattle.std.proofs.Common.{◌+◌, ◌<◌}
 use Rattle.std.proofs.Common.{◌∙◌, ◌∷◌, ◌≡◌, ◌≢◌}
 use Rattle.atomic_table.specs.Seated.{TableId}
 use Rattle.atomic_table.specs.declared.shared.Seat.{Seat}
 use Rattle.model_core.specs.{Given, Line, UserState}
-use Rattle.model_core.specs.Actors as model
+use Rattle.model_core.specs.States as model
 use Rattle.model_core.specs.declared.steps.UserStep.TheVariants as user_step
 use Rattle.model_logcore.specs.{lengths}
 use Rattle.model_running.specs.Schedule.{HasEnded}
 use Rattle.model_script.specs.{LineFits}
 use Rattle.model_script.specs.declared.item.Item.{Item}
 use Rattle.model_script.specs.declared.script.ScriptLine.{ScriptLine}
-use Rattle.redo_drive.specs.Views.{view_of}
+use Rattle.redo_drive.specs.{view_of}
 use Rattle.redo_follow.specs.declared.tally.Tally.{Tally}
 use Rattle.redo_live.proofs.Later.{state_is, user_later}
-use Rattle.redo_live.specs.Committing.{HasCommitted, HasFailed, HasPlayed, HasTaken}
-use Rattle.redo_live.specs.Committing.{MayPlay, program_line}
-use Rattle.redo_live.specs.Holding.{IsPlayedBy, IsUserOf, line_by, shape_of, state_of}
+use Rattle.redo_live.specs.Committing.{HasCommitted, HasFailed, HasPlayed, HasTaken, MayPlay, program_line}
+use Rattle.redo_live.specs.Holding.{IsPlayedBy, IsUserOf, line_by, reads_of, shape_of, state_of}
 use Rattle.redo_live.specs.Later.{HasGoneOn}
 use Rattle.redo_live.specs.Telling.{HasAnswered, last_end}
 use Rattle.redo_live.specs.declared.store.Store.{Store}
@@ -69,6 +69,7 @@ module _ {L D : Type 0} (stands : Tally → List Given → Type 0) (store : Stor
         answered = later.answered;
         starts = later.starts;
         seat_number = goes.same.number;
+        reads = goes.same.reads;
         used = used;
       }
 
@@ -86,6 +87,7 @@ module _ {L D : Type 0} (store : Store L D) (u : UserState) (user : User L D) (m
   -- a user that has done a line has its answer
   pub has_answered : 0 < length u.lines → HasAnswered u
   has_answered some = record {
+    done = done;
     some_group = (let n = all_reserved in omega arith);
     groups = sits.mine.may.groups;
   }
@@ -135,12 +137,13 @@ module _ {L D : Type 0} (store : Store L D) (old mid new : User L D) (line : Scr
   its_starts = (played.starts.0, ap (λ (s : UserState). s.starts) its_state ∙ played.starts.1)
 
   -- it has gone on
-  has_gone_on : HasGoneOn (state_of old) (state_of new)
+  has_gone_on : HasGoneOn old new
   has_gone_on = record {
     number = its_number;
     lines = (program_line store line ∷ [], its_lines);
     starts = its_starts;
     answered = (let k = ap (λ (s : UserState). s.k) its_state in let l = played.answered in omega arith);
+    reads = ([], played.reads ∙ took.reads ∙ sym (append-nil (reads_of old)));
   }
 
   -- by one group, where it has done its lines

@@ -3,18 +3,16 @@ use Rattle.std.proofs.Common.{List, Some, [], subst, ℕ, ◌+◌}
 use Rattle.std.proofs.lemmas.Option.{IfSome_then}
 use Rattle.std.specs.List.{AllByRecursion}
 use Rattle.model_base.specs.declared.shape.Shape.{Shape}
-use Rattle.model_device.specs.Disk.{Disk}
+use Rattle.model_device.specs.{Disk}
 use Rattle.model_parts.specs.{numbers_taken}
 use Rattle.model_script.specs.{LineFits}
-use Rattle.model_store.specs.{IsFair, IsFairLog}
-use Rattle.model_store.specs.Reading.{Reading}
+use Rattle.model_store.specs.{IsFair, IsFairLog, Reading}
 use Rattle.model_theorem.specs.{IsStart, opened_as}
 use Rattle.model_theorem.specs.Closed.{Held, IsHeld}
 use Rattle.model_theorem.specs.Run.{ReadsPrefix}
-use Rattle.redo_disk.specs.{Call}
-use Rattle.redo_disk.specs.Seen.{Seen}
+use Rattle.redo_disk.specs.{Call, Seen}
 use Rattle.redo_drive.specs.Drive.{closed_run}
-use Rattle.redo_drive.specs.Startable.{HasReading}
+use Rattle.redo_drive.specs.{HasReading}
 use Rattle.redo_live.specs.Closing.{LeavesStore}
 use Rattle.redo_live.specs.Crashed.{IsReadAfterCrash}
 use Rattle.redo_live.specs.declared.store.Store.{Store}

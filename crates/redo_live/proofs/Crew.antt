@@ -12,6 +12,7 @@ use Rattle.redo_live.specs.Serving.{Stays}
 use Rattle.redo_live.specs.declared.store.Store.{Store}
 use Rattle.redo_live.specs.declared.user.User.{User}
 use Rattle.redo_live.specs.declared.worker.Worker.{Worker}
+use Rattle.redo_ownrule.specs.LiveClosing.{user_count}
 use Rattle.redo_rule.proofs.Gathered.{at_or}
 use Rattle.redo_rule.specs.Mine.{number_of}
 use Rattle.redo_store.specs.declared.opened.Opened.{Opened}
@@ -51,25 +52,40 @@ module _ {L D : Type 0} (store : Store L D) where
       (λ (w : Worker L D) (i : ℕ). IsWorkerOf store w × (number_of w.seat.me.0 ≡ first + i)) old new len are
       (λ i d low was. let now = left i d low was.0 in (now.0, now.1.number ∙ was.1))
 
+  -- all users are numbered in their order
+  pub all_users : (users : List (User L D)) (workers : List (Worker L D)) → AreAllOf store users workers
+      → AreUsersOf store users
+  all_users users workers all i u at = (all.may_close.users_are i u at, all.in_order i u at)
+
   pub all_stay : (old_users new_users : List (User L D)) (old_workers new_workers : List (Worker L D))
       → length new_users ≡ length old_users → length new_workers ≡ length old_workers
       → AreAllOf store old_users old_workers → AreUsersOf store new_users
-      → AreWorkersOf store (length old_users) new_workers → AreAllOf store new_users new_workers
+      → AreWorkersOf store (user_count store.shared) new_workers → AreAllOf store new_users new_workers
   all_stay old_users new_users old_workers new_workers users workers all users_are workers_are = record {
-    is_open = all.is_open;
-    users_are = users_are;
-    workers_are = subst (λ (k : ℕ). AreWorkersOf store k new_workers) (sym users) workers_are;
-    all = ap (λ (k : ℕ). k + length new_workers) users ∙ ap (λ (k : ℕ). length old_users + k) workers ∙ all.all;
+    may_close = record {
+      is_open = all.may_close.is_open;
+      users_are = λ i u at. (users_are i u at).0;
+      few = (let f = all.may_close.few in omega arith);
+      workers_are = workers_are;
+      all_workers = (let a = all.may_close.all_workers in omega arith);
+    };
+    in_order = λ i u at. (users_are i u at).1;
+    all_users = users ∙ all.all_users;
   }
 
   pub opened_all : (opened : Opened L D) (count : ℕ) (log_only : Bool) (users : List (User L D))
       (workers : List (Worker L D)) → IsNewlyOpened opened count log_only store users workers
       → AreAllOf store users workers
   opened_all opened count log_only users workers made = record {
-    is_open = made.is_open;
-    users_are = made.users_are;
-    workers_are = subst (λ (k : ℕ). AreWorkersOf store k workers) (sym made.count) made.workers_are;
-    all = ap (λ (k : ℕ). k + length workers) made.count ∙ made.all;
+    may_close = record {
+      is_open = made.is_open;
+      users_are = λ i u at. (made.users_are i u at).0;
+      few = (let c = made.count in let n = made.user_count_is in omega arith);
+      workers_are = subst (λ (k : ℕ). AreWorkersOf store k workers) (sym made.user_count_is) made.workers_are;
+      all_workers = (let n = made.user_count_is in let a = made.all in omega arith);
+    };
+    in_order = λ i u at. (made.users_are i u at).1;
+    all_users = made.count ∙ sym made.user_count_is;
   }
 
   pub user_at : (users : List (User L D)) (i : ℕ) (u : User L D) → AreUsersOf store users → i < length users

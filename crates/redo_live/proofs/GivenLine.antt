@@ -4,12 +4,12 @@ use Rattle.atomic_table.specs.Seated.{TableId}
 use Rattle.atomic_table.specs.declared.shared.Seat.{Seat}
 use Rattle.model_base.specs.declared.shape.Shape.{Shape}
 use Rattle.model_core.specs.{Line, line_of, UserState}
-use Rattle.model_core.specs.Actors as model
+use Rattle.model_core.specs.States as model
 use Rattle.model_log.specs.declared.rec.Rec.{Rec}
 use Rattle.model_script.specs.{group_of}
 use Rattle.model_script.specs.declared.script.ScriptLine.{ScriptLine}
 use Rattle.redo_live.proofs.Answered.{seat_of_user}
-use Rattle.redo_live.proofs.Handing.{layout_is, number_is, seat_with}
+use Rattle.redo_live.proofs.Handing.{heard_is, layout_is, number_is, seat_with}
 use Rattle.redo_live.specs.Giving.{HasLine, MayGive}
 use Rattle.redo_live.specs.Holding.{IsPlayedBy}
 use Rattle.redo_ownrule.specs.Playing.{IsPlayerSeat}
@@ -51,4 +51,5 @@ module _ {L D R : Type 0} (table : TableId) (about : About L D) (u : UserState) 
         (seat_with table u (line_about about line) old new was may.done of given);
     layout = layout_is table u (line_about about line) old new was may.done of given;
     number = number_is table u (line_about about line) old new was may.done of given;
+    heard = heard_is table u (line_about about line) old new was may.done of given;
   }

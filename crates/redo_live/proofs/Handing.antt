@@ -1,15 +1,12 @@
 -- The seat of a user that was handed in a line is its seat still.
-use Rattle.std.proofs.Common.{List, None, Option, Some, [], ap, arith, false, length, length-append, refl, subst, sym}
-use Rattle.std.proofs.Common.{ℕ}
-use Rattle.std.proofs.Common.{◌+◌, ◌<◌, ◌^◌, ◌∙◌, ◌∷◌, ◌≡◌}
+use Rattle.std.proofs.Common.{List, None, Option, Some, [], ap, arith, false, length, length-append, refl, subst, sym, ℕ, ◌+◌, ◌<◌, ◌^◌, ◌∙◌, ◌∷◌, ◌≡◌}
 use Rattle.std.proofs.Math.ListN.{get_or-append}
 use Rattle.std.specs.Prelude.{slice_index}
 use Rattle.atomic_table.specs.Seated.{TableId}
 use Rattle.atomic_table.specs.Table.{Me}
 use Rattle.atomic_table.specs.declared.shared.Seat.{Seat}
-use Rattle.model_core.specs.{holds_tail, Line, UserState, word_count}
-use Rattle.model_core.specs.Actors as model
-use Rattle.model_core.specs.Hands.{hand, user_hand}
+use Rattle.model_core.specs.{holds_tail, Line, UserState, word_count, hand, user_hand}
+use Rattle.model_core.specs.States as model
 use Rattle.model_core.specs.declared.ops.Op.TheVariants as op
 use Rattle.model_core.specs.declared.steps.UserStep.{UserStep}
 use Rattle.model_core.specs.declared.steps.UserStep.TheVariants as user_step
@@ -19,7 +16,7 @@ use Rattle.model_core.specs.declared.words.LinkBuffer.TheVariants as link_buffer
 use Rattle.model_core.specs.declared.words.Word.TheVariants as word
 use Rattle.redo_drive.specs.Reserved.{HasReserved}
 use Rattle.redo_rule.specs.HandIn.{handed_in, numbered_with, view_with, with_line}
-use Rattle.redo_rule.specs.Mine.{number_in, number_of}
+use Rattle.redo_rule.specs.Mine.{heard_in, heard_of, number_in, number_of}
 use Rattle.redo_rule.specs.Plays.{Carries, MayGo}
 use Rattle.redo_rule.specs.Seating.{IsSeatOf}
 use Rattle.redo_rule.specs.declared.law.Keeping.{Keeping}
@@ -90,6 +87,10 @@ module _ {L D : Type 0} where
     pub number_is : number_of new.me.0 ≡ number_of old.me.0
     number_is = ap (λ (v : View L D). number_of v) view_is
         ∙ sym (ap (λ (l : List Numbered). number_in l) was.mine.one)
+
+    pub heard_is : heard_of new.me.0 ≡ heard_of old.me.0
+    heard_is = ap (λ (v : View L D). heard_of v) view_is
+        ∙ sym (ap (λ (l : List Numbered). heard_in l) was.mine.one)
 
     pub seat_with : IsSeatOf table new (model.User (with_line u line))
     seat_with = record {

@@ -1,8 +1,5 @@
 -- A commit that was answered is in the history that its store leaves, and in what is read after it.
-use Rattle.std.proofs.Common.{Bool, List, Option, Some, [], ap, append-nil, arith, cond, eq-eqb, length, length-append}
-use Rattle.std.proofs.Common.{map, refl, slice_get}
-use Rattle.std.proofs.Common.{slice_index, subst, suc, sym, take, zero, ℕ, ◌%◌, ◌+◌, ◌-◌, ◌<◌, ◌==◌, ◌∙◌, ◌∷◌, ◌≡◌}
-use Rattle.std.proofs.Common.{◌≢◌, ◌≤◌}
+use Rattle.std.proofs.Common.{Bool, List, Option, Some, [], ap, append-nil, arith, cond, eq-eqb, length, length-append, map, refl, slice_get, slice_index, subst, suc, sym, take, zero, ℕ, ◌%◌, ◌+◌, ◌-◌, ◌<◌, ◌==◌, ◌∙◌, ◌∷◌, ◌≡◌, ◌≢◌, ◌≤◌}
 use Rattle.std.proofs.Math.ListN.{get_or-append}
 use Rattle.std.proofs.Math.Seq.{get_or-append_seam}
 use Rattle.std.proofs.lemmas.Option.{same_Some}
@@ -11,7 +8,7 @@ use mathlib.Core.Option.{some}
 use Rattle.model_base.specs.declared.limits.TheConstants.{BLOCK_SIZE}
 use Rattle.model_base.specs.declared.shape.Shape.{Shape}
 use Rattle.model_core.specs.{Line, line_at, line_of, lsn, UserState}
-use Rattle.model_core.specs.Actors as model
+use Rattle.model_core.specs.States as model
 use Rattle.model_log.proofs.Several.{one_group}
 use Rattle.model_log.specs.{block_of, group_text, IsAtDataStart, start_after}
 use Rattle.model_log.specs.declared.layout.TheConstants.{BLOCK_HEADER}
@@ -26,11 +23,10 @@ use Rattle.model_script.specs.{group_of, LineFits, record_of}
 use Rattle.model_script.specs.declared.item.Item.{Item}
 use Rattle.model_script.specs.declared.item.Item.TheVariants.{Init, Num, Text}
 use Rattle.model_script.specs.declared.script.ScriptLine.{ScriptLine}
-use Rattle.model_store.specs.Reading.{Reading}
+use Rattle.model_store.specs.{Reading}
 use Rattle.model_theorem.specs.{Opened, Ran}
 use Rattle.model_theorem.specs.Run.{first_count, IsPrefixRead}
-use Rattle.redo_disk.specs.{Call}
-use Rattle.redo_disk.specs.Seen.{Seen}
+use Rattle.redo_disk.specs.{Call, Seen}
 use Rattle.redo_drive.proofs.UserEntries.{listed_at}
 use Rattle.redo_drive.specs.Drive.{closed_run}
 use Rattle.redo_drive.specs.Reserved.{listed_group}
@@ -39,11 +35,13 @@ use Rattle.redo_live.specs.Committing.{HasCommitted, program_line}
 use Rattle.redo_live.specs.Holding.{IsOpen, line_by, shape_of, state_of}
 use Rattle.redo_live.specs.Kept.{IsKeptCommit, IsReadCommit}
 use Rattle.redo_live.specs.Later.{HasGoneOn}
+use Rattle.redo_live.specs.Reading.{HasReadPage}
 use Rattle.redo_live.specs.Telling.{last_end}
 use Rattle.redo_live.specs.declared.store.Store.{Store}
 use Rattle.redo_live.specs.declared.user.User.{User}
 use Rattle.redo_ownrule.specs.LiveLeaving.{closed_with, IsKept}
 use Rattle.redo_ownrule.specs.Sharing.{opened_of}
+use Rattle.redo_rule.specs.Mine.{number_of}
 use Rattle.redo_rule.specs.declared.closing.Left.{Left}
 use Rattle.redo_useractor.specs.{program_lines}
 
@@ -51,30 +49,52 @@ abbrev no_line : Line
 no_line = record { mode = 0; bytes = []; changes = [] }
 
 -- what a user had it has later
-module _ (u v : UserState) (on : HasGoneOn u v) where
-  line_stays : (k : ℕ) → k < length u.lines → ◌≡◌ {A = Line} (line_at v.lines k) (line_at u.lines k)
+module _ {L D : Type 0} (old new : User L D) (on : HasGoneOn old new) where
+  abbrev before : UserState
+  before = state_of old
+
+  abbrev after : UserState
+  after = state_of new
+
+  line_stays : (k : ℕ) → k < length before.lines → ◌≡◌ {A = Line} (line_at after.lines k) (line_at before.lines k)
   line_stays k below = ap (λ (l : List Line). line_at l k) on.lines.1
-      ∙ get_or-append u.lines on.lines.0 no_line k below
+      ∙ get_or-append before.lines on.lines.0 no_line k below
 
-  start_stays : (k : ℕ) → k < length u.starts → slice_index v.starts k ≡ slice_index u.starts k
+  start_stays : (k : ℕ) → k < length before.starts → slice_index after.starts k ≡ slice_index before.starts k
   start_stays k below = ap (λ (l : List ℕ). slice_index l k) on.starts.1
-      ∙ get_or-append u.starts on.starts.0 0 k below
+      ∙ get_or-append before.starts on.starts.0 0 k below
 
-  more_starts : length u.starts ≤ length v.starts
+  more_starts : length before.starts ≤ length after.starts
   more_starts =
       let a = ap (λ (l : List ℕ). length l) on.starts.1 in
-      let b = length-append u.starts on.starts.0 in omega arith
+      let b = length-append before.starts on.starts.0 in omega arith
 
   -- its last group ends where it ends later
-  last_ends : (k : ℕ) → length u.starts ≡ k + 1 → length u.lines ≡ k + 1
-      → last_end u ≡ lsn (slice_index v.starts k + length (line_at v.lines k).bytes)
+  last_ends : (k : ℕ) → length before.starts ≡ k + 1 → length before.lines ≡ k + 1
+      → last_end before ≡ lsn (slice_index after.starts k + length (line_at after.lines k).bytes)
   last_ends k starts lines =
-      let e : length u.starts - 1 ≡ k = omega arith in
-      let low : k < length u.starts = omega arith in
-      let below : k < length u.lines = omega arith in
-      ap (λ (n : ℕ). lsn (slice_index u.starts n + length (line_at u.lines n).bytes)) e
-      ∙ ap (λ (s : ℕ). lsn (s + length (line_at u.lines k).bytes)) (sym (start_stays k low))
-      ∙ ap (λ (l : Line). lsn (slice_index v.starts k + length l.bytes)) (sym (line_stays k below))
+      let e : length before.starts - 1 ≡ k = omega arith in
+      let low : k < length before.starts = omega arith in
+      let below : k < length before.lines = omega arith in
+      ap (λ (n : ℕ). lsn (slice_index before.starts n + length (line_at before.lines n).bytes)) e
+      ∙ ap (λ (s : ℕ). lsn (s + length (line_at before.lines k).bytes)) (sym (start_stays k low))
+      ∙ ap (λ (l : Line). lsn (slice_index after.starts k + length l.bytes)) (sym (line_stays k below))
+
+-- a commit that its user was answered ends at or below the lsn as of which that reads a page later
+pub own_commit_below : {L D : Type 0} (store : Store L D) (old new reader last : User L D) (mode end number as_of : ℕ)
+    (items : List Item) (bytes : List ℕ) → HasCommitted store old mode items new end → HasGoneOn new reader
+    → HasReadPage store reader number as_of bytes last → end ≤ as_of
+own_commit_below {L} {D} store old new reader last mode end number as_of items bytes committed on read =
+    let k : ℕ = length (state_of old).lines in
+    let line : Line = program_line store (line_by old mode items) in
+    let a = ap (λ (l : List Line). length l) committed.lines in
+    let b = length-append (state_of old).lines (line ∷ []) in
+    let lines : length (state_of new).lines ≡ k + 1 = omega arith in
+    let starts : length (state_of new).starts ≡ k + 1 = committed.reserved ∙ lines in
+    let more = more_starts new reader on in
+    let e = committed.end_is ∙ last_ends new reader on k starts lines in
+    let low = read.own k (omega arith) in
+    omega arith
 
 -- a commit that waits for the flush is flushed if it isn't lost
 is_flushed : (s : State) → FitsMode 1 s → s ≢ Lost → s ≡ Flushed
@@ -141,7 +161,7 @@ starts_there s place =
 module _ {L D : Type 0} (log_seen : L → Seen) (log_gives : L → Call → L → Type 0) (data_seen : D → Seen)
     (data_gives : D → Call → D → Type 0) (store : Store L D) (users : List (User L D)) (left : Left L D)
     (old new last : User L D) (i mode end : ℕ) (items : List Item) (is_open : IsOpen store)
-    (committed : HasCommitted store old mode items new end) (on : HasGoneOn (state_of new) (state_of last))
+    (committed : HasCommitted store old mode items new end) (on : HasGoneOn new last)
     (at : get_elem? users i ≡ some last)
     (leaves : LeavesStore log_seen log_gives data_seen data_gives store users left) where
   abbrev u : UserState
@@ -169,35 +189,39 @@ module _ {L D : Type 0} (log_seen : L → Seen) (log_gives : L → Call → L �
   starts_count = committed.reserved ∙ lines_count
 
   reserved : k < length u.starts
-  reserved = let a = starts_count in let b = more_starts (state_of new) u on in omega arith
+  reserved = let a = starts_count in let b = more_starts new last on in omega arith
 
   answered : k < u.k
   answered = let a = committed.answered in let b = lines_count in let c = on.answered in omega arith
 
-  here : get_elem? leaves.actors i ≡ some (model.User u)
+  -- its number
+  abbrev seat : ℕ
+  seat = number_of last.seat.me.0
+
+  here : get_elem? leaves.actors seat ≡ some (model.User u)
   here = leaves.of_users i last at
 
   kept : IsKept history u k
-  kept = leaves.leaves.is_kept i u here k reserved answered
+  kept = leaves.leaves.is_kept seat u here k reserved answered
 
   abbrev group : Entry
   group = listed_group left.marks u k (slice_index u.starts k)
 
   entry_is : ◌≡◌ {A = Entry} kept.entry group
   entry_is = same_Some kept.entry group
-      (sym kept.is ∙ ap (λ (l : List Entry). slice_get l k) (leaves.leaves.of_groups i u here)
+      (sym kept.is ∙ ap (λ (l : List Entry). slice_get l k) (leaves.leaves.of_groups seat u here)
       ∙ listed_at left.marks u 0 u.starts k reserved
       ∙ ap (λ (n : ℕ). Some (listed_group left.marks u n (slice_index u.starts k)))
       (let e : 0 + k ≡ k = omega arith in e))
 
   end_is : kept.entry.end ≡ end
   end_is = ap (λ (e : Entry). e.end) entry_is
-      ∙ sym (committed.end_is ∙ last_ends (state_of new) u on k starts_count lines_count)
+      ∙ sym (committed.end_is ∙ last_ends new last on k starts_count lines_count)
 
   line_same : ◌≡◌ {A = Line} (line_at u.lines k) line
   line_same =
       let below : k < length (state_of new).lines = (let n = lines_count in omega arith) in
-      line_stays (state_of new) u on k below
+      line_stays new last on k below
       ∙ ap (λ (l : List Line). line_at l k) committed.lines
       ∙ get_or-append_seam (state_of old).lines line [] no_line
 
@@ -217,7 +241,7 @@ module _ {L D : Type 0} (log_seen : L → Seen) (log_gives : L → Call → L �
       (line_of store.log_only (shape_of store) legal.line.mode (group_of (shape_of store).space legal.line)) line
   runs_same =
       sym (run_so store.log_only (shape_of store) (lines_of_user u.user script) k legal.line line_is)
-      ∙ ap (λ (ls : List Line). line_at ls k) (sym (leaves.leaves.of_user i u here)) ∙ line_same
+      ∙ ap (λ (ls : List Line). line_at ls k) (sym (leaves.leaves.of_user seat u here)) ∙ line_same
 
   script_mode : legal.line.mode ≡ mode
   script_mode = ap (λ (l : Line). l.mode) runs_same

@@ -1,8 +1,8 @@
 -- A user that plays, later.
 use Rattle.std.proofs.Common.{List, ap, subst, sym, ℕ, ◌++◌, ◌∙◌, ◌≡◌, ◌≤◌}
 use Rattle.model_core.specs.{UserState}
-use Rattle.model_core.specs.Actors as model
-use Rattle.redo_drive.specs.Views.{view_of}
+use Rattle.model_core.specs.States as model
+use Rattle.redo_drive.specs.{view_of}
 use Rattle.redo_drive.specs.declared.actor.Actor.{Actor}
 use Rattle.redo_drive.specs.declared.actor.Actor.TheVariants as actor
 use Rattle.redo_live.specs.Holding.{IsPlayedBy, state_in}

@@ -10,6 +10,7 @@ pub mod Handing
 pub mod KeptCommit
 pub mod Later
 pub mod NewlyOpened
+pub mod PageReads
 pub mod Quotas
 pub mod Seatings
 pub mod Sharing

@@ -1,5 +1,5 @@
 -- A store as it is opened: its users and its workers in their seats.
-use Rattle.std.proofs.Common.{append-nil, true}
+use Rattle.std.proofs.Common.{append-nil, Some, true}
 use Rattle.std.proofs.Common.{Bool, List, [], ap, arith, false, inl, length, map, refl, subst, suc, sym, zero, ℕ}
 use Rattle.std.proofs.Common.{◌++◌, ◌+◌, ◌<◌, ◌^◌, ◌∙◌, ◌∷◌, ◌≡◌, ◌≤◌}
 use Rattle.std.proofs.lemmas.List.{length-map}
@@ -12,7 +12,7 @@ use Rattle.atomic_table.specs.declared.shared.Seat.{Seat}
 use Rattle.model_base.specs.{IsWithinLimits}
 use Rattle.model_base.specs.declared.shape.Shape.{Shape}
 use Rattle.model_core.specs.{new_user, UserState}
-use Rattle.model_core.specs.Actors as model
+use Rattle.model_core.specs.States as model
 use Rattle.model_log.specs.{run_layout}
 use Rattle.model_logcore.specs.{lengths}
 use Rattle.model_running.specs.Schedule.{HasEnded}
@@ -20,11 +20,10 @@ use Rattle.model_script.specs.declared.misfit.TheConstants.{MAX_USERS}
 use Rattle.redo_drive.proofs.Viewed.{length_views}
 use Rattle.redo_drive.specs.LiveActors.{idle_users, live_actors}
 use Rattle.redo_drive.specs.Setups.{other_actors}
-use Rattle.redo_drive.specs.Views.{view_of}
+use Rattle.redo_drive.specs.History.{view_of}
 use Rattle.redo_drive.specs.declared.actor.Actor.{Actor}
 use Rattle.redo_follow.specs.declared.tally.Tally.{Tally}
 use Rattle.redo_live.proofs.Later.{plays_as, state_is}
-use Rattle.redo_live.proofs.Quotas.{many_actors, many_idle, others}
 use Rattle.redo_live.proofs.Workers.{past}
 use Rattle.redo_live.specs.Holding.{AreUsersOf, AreWorkersOf, IsOpen, IsPlayedBy, state_of}
 use Rattle.redo_live.specs.Opening.{IsNewlyOpened}
@@ -33,6 +32,8 @@ use Rattle.redo_live.specs.Seating.{AreSeatedFrom, AreSeatedUsers, AreSeatedWork
 use Rattle.redo_live.specs.declared.store.Store.{Store}
 use Rattle.redo_live.specs.declared.user.User.{User}
 use Rattle.redo_live.specs.declared.worker.Worker.{Worker}
+use Rattle.redo_ownrule.proofs.LiveCount.{many_actors, many_idle, others}
+use Rattle.redo_ownrule.specs.LiveClosing.{users_in}
 use Rattle.redo_ownrule.specs.LiveSharing.{IsNewlyLive}
 use Rattle.redo_ownrule.specs.Players.{actor_of, AreInOrder, ArePlain, place, workers}
 use Rattle.redo_ownrule.specs.Playing.{IsPlayerSeat}
@@ -47,6 +48,7 @@ use Rattle.redo_rule.specs.declared.law.Live.{Live}
 use Rattle.redo_rule.specs.declared.law.Slot.{Slot}
 use Rattle.redo_rule.specs.declared.law.View.{View}
 use Rattle.redo_store.specs.declared.opened.Opened.{Opened}
+use Rattle.redo_words.specs.{shape_layout}
 
 -- each user without lines stands by its number
 idle_there : (blocks users i : ℕ) → i < users
@@ -122,7 +124,8 @@ many_players opened live log_only shared players new =
 
 module _ {L D : Type 0} (opened : Opened L D) (live : Live) (log_only : Bool) (before shared : Shared L D Tally)
     (players : List (Player Tally)) (new : IsNewlyLive opened live log_only before players)
-    (same : shared.board ≡ before.board) (seats : List (Seat (Slot L D) (View L D)))
+    (same : shared.board ≡ before.board) (kept_layout : shared.layout ≡ before.layout)
+    (seats : List (Seat (Slot L D) (View L D)))
     (sit : AreSeatsOf (table_of shared) (own_of shared) seats players) (laid : AreLaidOut shared.layout seats) where
   abbrev plan : Plan
   plan = record {
@@ -174,18 +177,23 @@ module _ {L D : Type 0} (opened : Opened L D) (live : Live) (log_only : Bool) (b
       (limits : IsWithinLimits opened.shape) (no_seats : store.seats.items ≡ [])
       (seats_fit : live.users + others log_only ≤ vec_capacity store.seats) (no_players : store.players.items ≡ [])
       (players_fit : live.users + others log_only ≤ vec_capacity store.players) where
+    live_is : store.shared.board.shared.key.live ≡ Some live
+    live_is = ap (λ (s : Shared L D Tally). s.board.shared.key.live) shared_is
+        ∙ ap (λ b. b.shared.key.live) same ∙ new.is_live
+
     -- THE STORE IS OPEN
     is_open : IsOpen store
     is_open = record {
       seated = subst (λ (s : Shared L D Tally). IsSeated s) (sym shared_is) seated;
       alive = record {
         live = live;
-        is_live = ap (λ (s : Shared L D Tally). s.board.shared.key.live) shared_is
-            ∙ ap (λ b. b.shared.key.live) same ∙ new.is_live;
+        is_live = live_is;
         no_script = ap (λ (s : Shared L D Tally). s.board.shared.key.script.value) shared_is
             ∙ ap (λ b. b.shared.key.script.value) same ∙ new.no_script;
         apart = ap (λ (s : Shared L D Tally). s.board.shared.key.archive) shared_is
             ∙ ap (λ b. b.shared.key.archive) same ∙ new.archive_is;
+        alone = ap (λ (s : Shared L D Tally). s.board.shared.key.followers) shared_is
+            ∙ ap (λ b. b.shared.key.followers) same ∙ new.followers_are;
       };
       quota_is = quota_is;
       quota_small = quota_small;
@@ -196,6 +204,10 @@ module _ {L D : Type 0} (opened : Opened L D) (live : Live) (log_only : Bool) (b
           ∙ ap (λ b. b.shared.key.opened.value.shape) same
           ∙ ap (λ (o : Opened L D). o.shape) new.opened_is);
       limits = subst IsWithinLimits (sym shape_is) limits;
+      layout_is = ap (λ (s : Shared L D Tally). s.layout) shared_is ∙ kept_layout ∙ new.layout_is
+          ∙ sym (ap (λ (s : Shared L D Tally). shape_layout (opened_of s).shape) shared_is
+          ∙ ap (λ b. shape_layout b.shared.key.opened.value.shape) same
+          ∙ ap (λ (o : Opened L D). shape_layout o.shape) new.opened_is);
       no_seats = no_seats;
       seats_fit = (let m = many_players opened live log_only before players new in let a = all_start in
           let s = ap (λ (s : Shared L D Tally). length (starts_of s)) shared_is in omega arith);
@@ -264,6 +276,7 @@ module _ {L D : Type 0} (opened : Opened L D) (live : Live) (log_only : Bool) (b
         opened_is = ap (λ (s : Shared L D Tally). opened_of s) shared_is
             ∙ ap (λ b. b.shared.key.opened.value) same ∙ new.opened_is;
         log_only_is = only_is;
+        user_count_is = ap users_in live_is;
         count = count;
         users_are = users_of;
         idle = idle_user;

@@ -20,6 +20,7 @@ use Rattle.redo_live.specs.declared.store.Store.{Store}
 use Rattle.redo_live.specs.declared.user.User.{User}
 use Rattle.redo_ownrule.specs.Sharing.{table_of}
 use Rattle.redo_rule.specs.declared.law.About.{About}
+use Rattle.redo_rule.specs.declared.law.Heard.{Heard}
 
 -- a script of which no quantity is a misfit fits the store
 abbrev pub FittingLaw : Type 0
@@ -79,6 +80,7 @@ module _ {L D : Type 0} (law : FittingLaw) (store : Store L D) (user : User L D)
           sits = at.sits;
           layout = at.layout;
           number = at.number;
+          reads = ap (λ (h : Heard). h.reads) at.heard;
           used = (let b = bytes_are in let u = was.used in omega arith);
           within = (let w = was.within in omega arith);
           fits = its_fit;

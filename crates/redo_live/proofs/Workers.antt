@@ -1,14 +1,12 @@
 -- A worker works to its end.
-use Rattle.std.proofs.Common.{List, [], ap, arith, get_or, length, refl, set, subst, suc, sym, zero, ℕ, ⊎_elim, ◌+◌}
-use Rattle.std.proofs.Common.{◌<◌, ◌∙◌, ◌∷◌, ◌≡◌}
+use Rattle.std.proofs.Common.{List, [], ap, arith, get_or, length, refl, set, subst, suc, sym, zero, ℕ, ⊎_elim, ◌+◌, ◌<◌, ◌∙◌, ◌∷◌, ◌≡◌}
 use lib.ListN.{get_elem?}
 use mathlib.Core.Option as maybe
 use Rattle.atomic_table.proofs.Lists.{at_index, at_set}
 use Rattle.atomic_table.specs.Seated.{TableId}
-use Rattle.model_core.specs.{Given, UserState}
-use Rattle.model_core.specs.Actors as model
-use Rattle.model_core.specs.Later.{IsSameActor}
-use Rattle.redo_drive.specs.Views.{view_of}
+use Rattle.model_core.specs.{Given, UserState, IsSameActor}
+use Rattle.model_core.specs.States as model
+use Rattle.redo_drive.specs.{view_of}
 use Rattle.redo_drive.specs.declared.actor.Actor.{Actor}
 use Rattle.redo_drive.specs.declared.actor.Actor.TheVariants as actor
 use Rattle.redo_follow.specs.declared.tally.Tally.{Tally}

@@ -8,11 +8,11 @@ use Rattle.model_script.specs.{line_misfit, LineFits}
 use Rattle.model_script.specs.declared.item.Item.{Item}
 use Rattle.model_script.specs.declared.misfit.Misfit.{Misfit}
 use Rattle.model_script.specs.declared.script.ScriptLine.{ScriptLine}
-use Rattle.redo_live.specs.Holding.{about_of, IsPlayedBy, line_by, shape_of, state_of}
+use Rattle.redo_live.specs.Holding.{about_of, IsPlayedBy, line_by, reads_of, shape_of, state_of}
 use Rattle.redo_live.specs.Later.{HasGoneOn}
 use Rattle.redo_live.specs.Telling.{last_end}
 use Rattle.redo_live.specs.declared.refused.Refused.{Refused}
-use Rattle.redo_live.specs.declared.refused.Refused.TheVariants.{Device, Full, NoMemory, Unfit}
+use Rattle.redo_live.specs.declared.refused.Refused.TheVariants.{Device, Full, LogOnly, NoMemory, Unfit}
 use Rattle.redo_live.specs.declared.store.Store.{Store}
 use Rattle.redo_live.specs.declared.user.User.{User}
 use Rattle.redo_ownrule.specs.Playing.{IsPlayerSeat}
@@ -31,6 +31,7 @@ module _ {L D : Type 0} where
     pub sits : IsPlayerSeat (table_of store.shared) new.seat new.player
     pub layout : new.seat.me.0.layout ≡ old.seat.me.0.layout
     pub number : number_of new.seat.me.0 ≡ number_of old.seat.me.0
+    pub reads : reads_of new ≡ reads_of old
     pub used : new.used ≡ lengths (state_of old).lines + length (program_line store line).bytes
     pub within : new.used ≤ store.quota
     pub fits : LineFits (shape_of store) line
@@ -42,8 +43,8 @@ module _ {L D : Type 0} where
     pub sits : IsPlayerSeat (table_of store.shared) user.seat user.player
     pub layout : user.seat.me.0.layout ≡ store.shared.layout
 
-  -- it has played to its end: it keeps its lines, its number, its groups, its answers and its seat, and has done all
-  -- lines or has failed
+  -- it has played to its end: it keeps its lines, its number, its groups, its answers, its seat and the pages that it
+  -- has read, and has done all lines or has failed
   pub record HasPlayed (store : Store L D) (u : UserState) (old new : User L D) : Type 0 where
     pub state : UserState
     pub now : MayPlay store state new
@@ -53,6 +54,7 @@ module _ {L D : Type 0} where
     pub answered : u.k ≤ state.k
     pub starts : (more : List ℕ) × (state.starts ≡ u.starts ++ more)
     pub seat_number : number_of new.seat.me.0 ≡ number_of old.seat.me.0
+    pub reads : reads_of new ≡ reads_of old
     pub used : new.used ≡ old.used
 
   -- the groups of the user have no room for the line
@@ -65,6 +67,7 @@ module _ {L D : Type 0} where
       (Some misfit)
   IsRefusedFor store user line Full = LacksRoom store user line
   IsRefusedFor store user line NoMemory = Unit {0}
+  IsRefusedFor store user line LogOnly = ⊥
   IsRefusedFor store user line (Device code) = ⊥
 
   -- THE GROUP IS COMMITTED: the user, which hadn't failed, has gone on by its line and by the group of that, and has done
@@ -76,7 +79,7 @@ module _ {L D : Type 0} where
     pub lines : (state_of new).lines ≡ (state_of old).lines ++ program_line store (line_by old mode items) ∷ []
     pub done : (state_of new).step ≡ user_step.Done
     pub answered : (state_of new).k ≡ length (state_of new).lines
-    pub goes_on : HasGoneOn (state_of old) (state_of new)
+    pub goes_on : HasGoneOn old new
     pub starts : (start : ℕ) × ((state_of new).starts ≡ (state_of old).starts ++ start ∷ [])
     pub reserved : length (state_of new).starts ≡ length (state_of new).lines
     pub end_is : end ≡ last_end (state_of new)
@@ -86,7 +89,7 @@ module _ {L D : Type 0} where
       (new : User L D) : Type 0 where
     pub failed : (state_of new).step ≡ user_step.Failed
     pub code_is : (state_of new).code ≡ code
-    pub goes_on : HasGoneOn (state_of old) (state_of new)
+    pub goes_on : HasGoneOn old new
     pub lines : ((new ≡ old) × ((state_of old).step ≡ user_step.Failed))
         ⊎ (((state_of old).step ≡ user_step.Done)
         × ((state_of new).lines ≡ (state_of old).lines ++ program_line store line ∷ []))

@@ -6,7 +6,7 @@ use Rattle.model_script.specs.declared.script.ScriptLine.{ScriptLine}
 use Rattle.model_store.specs.{IsFair, IsFairLog}
 use Rattle.model_theorem.specs.{opened_as}
 use Rattle.model_theorem.specs.Run.{ReadsPrefix}
-use Rattle.redo_disk.specs.Seen.{Seen}
+use Rattle.redo_disk.specs.{Seen}
 use Rattle.redo_drive.specs.Drive.{closed_run, WhereRun}
 use Rattle.redo_ownrule.specs.LiveLeaving.{closed_with}
 use Rattle.redo_rule.specs.declared.closing.Left.{Left}

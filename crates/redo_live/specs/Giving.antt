@@ -12,7 +12,7 @@ use Rattle.redo_live.specs.Holding.{IsPlayedBy}
 use Rattle.redo_ownrule.specs.Playing.{IsPlayerSeat}
 use Rattle.redo_ownrule.specs.declared.player.Player.{Player}
 use Rattle.redo_rule.specs.HandIn.{line_about, with_line}
-use Rattle.redo_rule.specs.Mine.{number_of}
+use Rattle.redo_rule.specs.Mine.{heard_of, number_of}
 use Rattle.redo_rule.specs.declared.law.About.{About}
 use Rattle.redo_rule.specs.declared.law.Live.{Live}
 use Rattle.redo_rule.specs.declared.law.Slot.{Slot}
@@ -34,10 +34,11 @@ module _ {L D R : Type 0} where
     pub room : lengths u.lines + length (line_about about line).bytes ≤ live.quota
     pub group_is : ◌≡◌ {A = List Rec} group (group_of about.opened.value.shape.space line)
 
-  -- the user that plays has the line, in the seat that it had
+  -- the user that plays has the line, in the seat that it had, which has heard no more
   pub record HasLine (table : TableId) (about : About L D) (u : UserState) (line : ScriptLine)
       (old new : Seat (Slot L D) (View L D)) (p : Player R) : Type 0 where
     pub plays : IsPlayedBy (with_line u (line_about about line)) p
     pub sits : IsPlayerSeat table new p
     pub layout : new.me.0.layout ≡ old.me.0.layout
     pub number : number_of new.me.0 ≡ number_of old.me.0
+    pub heard : heard_of new.me.0 ≡ heard_of old.me.0

@@ -5,7 +5,9 @@ use mathlib.Core.Option.{some}
 use Rattle.model_base.specs.{IsWithinLimits}
 use Rattle.model_base.specs.declared.shape.Shape.{Shape}
 use Rattle.model_core.specs.{new_user, UserState}
+use Rattle.model_core.specs.declared.words.Layout.{Layout}
 use Rattle.model_logcore.specs.{lengths}
+use Rattle.model_reads.specs.declared.read.PageRead.{PageRead}
 use Rattle.model_running.specs.Schedule.{HasEnded}
 use Rattle.model_script.specs.{IsScriptLine}
 use Rattle.model_script.specs.declared.item.Item.{Item}
@@ -21,8 +23,9 @@ use Rattle.redo_ownrule.specs.Playing.{IsPlayerSeat}
 use Rattle.redo_ownrule.specs.Sharing.{IsLive, IsSeated, key_of, opened_of, own_of, starts_of, table_of}
 use Rattle.redo_ownrule.specs.declared.player.Player.{Player}
 use Rattle.redo_ownrule.specs.declared.player.Player.TheVariants as player
-use Rattle.redo_rule.specs.Mine.{number_of}
+use Rattle.redo_rule.specs.Mine.{heard_of, number_of}
 use Rattle.redo_rule.specs.declared.law.About.{About}
+use Rattle.redo_words.specs.{shape_layout}
 
 -- the player is a user, whose state is this
 abbrev pub IsPlayedBy : {R : Type 0} → UserState → Player R → Type 0
@@ -36,6 +39,10 @@ state_in _ = new_user 0 0 []
 module _ {L D : Type 0} where
   abbrev pub state_of : User L D → UserState
   state_of user = state_in user.player
+
+  -- the pages that it has read
+  abbrev pub reads_of : User L D → List PageRead
+  reads_of user = (heard_of user.seat.me.0).reads
 
   -- a line of the user, of this mode and these operations
   abbrev pub line_by : User L D → (mode : ℕ) → List Item → ScriptLine
@@ -59,6 +66,7 @@ module _ {L D : Type 0} where
     pub log_only_is : store.log_only ≡ (about_of store).log_only
     pub shape_is : store.shape ≡ shape_of store
     pub limits : IsWithinLimits store.shape
+    pub layout_is : ◌≡◌ {A = Layout} store.shared.layout (shape_layout (shape_of store))
     pub no_seats : store.seats.items ≡ []
     pub seats_fit : length (starts_of store.shared) ≤ vec_capacity store.seats
     pub no_players : store.players.items ≡ []

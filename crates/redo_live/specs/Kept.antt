@@ -7,7 +7,7 @@ use Rattle.model_report.specs.declared.entry.State.TheVariants.{Copied, Flushed,
 use Rattle.model_script.specs.{record_of}
 use Rattle.model_script.specs.declared.item.Item.{Item}
 use Rattle.model_script.specs.declared.script.ScriptLine.{ScriptLine}
-use Rattle.model_store.specs.Reading.{Reading}
+use Rattle.model_store.specs.{Reading}
 use Rattle.model_theorem.specs.{Ran}
 use Rattle.model_theorem.specs.Run.{first_count}
 

@@ -7,6 +7,7 @@ pub mod Kept
 pub mod Later
 pub mod Opening
 pub mod Quota
+pub mod Reading
 pub mod Seating
 pub mod Serving
 pub mod Telling

@@ -9,6 +9,7 @@ use Rattle.redo_live.specs.Quota.{share_of}
 use Rattle.redo_live.specs.declared.store.Store.{Store}
 use Rattle.redo_live.specs.declared.user.User.{User}
 use Rattle.redo_live.specs.declared.worker.Worker.{Worker}
+use Rattle.redo_ownrule.specs.LiveClosing.{user_count}
 use Rattle.redo_ownrule.specs.Sharing.{opened_of, starts_of}
 use Rattle.redo_store.specs.declared.opened.Opened.{Opened}
 
@@ -19,6 +20,7 @@ pub record IsNewlyOpened {L D : Type 0} (opened : Opened L D) (users : ℕ) (log
   pub is_open : IsOpen store
   pub opened_is : opened_of store.shared ≡ opened
   pub log_only_is : store.log_only ≡ log_only
+  pub user_count_is : user_count store.shared ≡ users
   pub count : length all_users ≡ users
   pub users_are : AreUsersOf store all_users
   pub idle : (i : ℕ) (user : User L D) → get_elem? all_users i ≡ some user

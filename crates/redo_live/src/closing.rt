@@ -1,6 +1,6 @@
 // A store is closed.
 ghost use Rattle.std.specs.Prelude.{[], ◌≡◌, ◌++◌, ◌+◌, ◌≤◌, ℕ, length, vec_capacity};
-ghost use Rattle.redo_live.specs.Closing.{AreAllOf, HaveEnded, LeavesStore, players_of, seats_of, worker_players, worker_seats};
+ghost use Rattle.redo_live.specs.Closing.{HaveEnded, LeavesStore, MayClose, players_of, seats_of, worker_players, worker_seats};
 ghost use Rattle.redo_live.specs.Holding.{AreWorkersOf};
 
 use crate::store::Store;
@@ -62,15 +62,16 @@ impl<L: Sectors, D: Sectors> Store<L, D> {
         }
     }
 
-    /// What the store leaves, given all its users and workers, in the order in which it gave them. A worker that hasn't come to
-    /// its end does so, and what isn't written yet is lost.
+    /// What the store leaves, given its workers, in the order in which it gave them, and those of its users that weren't dropped,
+    /// in any order. Each worker looks once more whether there is something to do, and comes to its end. What isn't written then is
+    /// lost; so may be the last group of a user that was dropped, but what there is of it is there whole.
     pub fn close<T: Wait>(
         self,
         rt: &T,
         users: Vec<User<L, D>>,
         workers: Vec<Worker<L, D>>,
     ) -> Left<L, D>
-        requires { AreAllOf self users.items workers.items }
+        requires { MayClose self users.items workers.items }
         ensures { LeavesStore L.seen L.gives D.seen D.gives self users.items result }
     {
         self.calls.end();
@@ -87,7 +88,6 @@ impl<L: Sectors, D: Sectors> Store<L, D> {
         } = self;
         put_users(&mut seats, &mut players, users);
         put_workers(&mut seats, &mut players, workers);
-        let (left, _actors) = shared.finish_live(seats, players);
-        left
+        shared.finish_live(rt, seats, players)
     }
 }

@@ -1,8 +1,8 @@
-// Why a commit isn't answered.
+// Why a commit isn't answered, or a page isn't read.
 use model_script::Misfit;
 use thiserror::Error;
 
-/// Why a commit isn't answered.
+/// Why a commit isn't answered, or a page isn't read.
 #[derive(Clone, Copy, Debug, PartialEq, Eq, Error)]
 pub enum Refused {
     /// A quantity of it doesn't fit the store. The user is as it was.
@@ -14,8 +14,11 @@ pub enum Refused {
     /// Memory ran out. The user is as it was.
     #[error("out of memory")]
     NoMemory,
-    /// The run has failed with this code, and the user with it. Its group may be in the log or not; each later commit of the user
-    /// is refused so.
+    /// The log runs alone, so no page has what was committed. A commit isn't refused so.
+    #[error("the log runs alone, so there are no pages")]
+    LogOnly,
+    /// The run has failed with this code. The user of a commit has failed with it: its group may be in the log or not, and each
+    /// later commit of the user is refused so. A page is refused so where an actor has it that has failed.
     #[error("the run has failed with code {0}")]
     Device(u32),
 }

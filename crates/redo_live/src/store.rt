@@ -1,7 +1,9 @@
 // An open store.
 ghost use Rattle.std.specs.Prelude.{◌≡◌, ◌≤◌, ◌<◌, IfErr, IfOk};
+ghost use Rattle.model_base.specs.{IsWithinLimits};
 ghost use Rattle.model_base.specs.declared.limits.TheConstants.{LSN_LIMIT};
 ghost use Rattle.model_script.specs.declared.misfit.TheConstants.{MAX_USERS};
+ghost use Rattle.redo_live.specs.Holding.{IsOpen, shape_of};
 ghost use Rattle.redo_live.specs.Opening.{IsNewlyOpened};
 ghost use Rattle.redo_store.specs.{IsRunnable};
 
@@ -84,6 +86,15 @@ impl<L: Sectors, D: Sectors> Store<L, D> {
             players: player_room,
         };
         Ok((store, all_users, all_workers))
+    }
+
+    /// The sizes of the store: how many pages it has, and how long these are.
+    pub fn shape(&self) -> Shape
+        requires { IsOpen self.now }
+        ensures shape { result ≡ shape_of self.now }
+        ensures limits { IsWithinLimits result }
+    {
+        self.shape
     }
 
     /// No user commits any more: each worker comes to its end.

@@ -10,7 +10,7 @@ use crate::store::Store;
 use crate::user::User;
 use model_script::{ScriptLine, fitting_script};
 use redo_disk::Sectors;
-use redo_script::{Unfit, group_of, judge_line};
+use redo_script::{Unfit, judge_line};
 use std::alloc::Global;
 
 impl<L: Sectors, D: Sectors> User<L, D> {
@@ -30,17 +30,14 @@ impl<L: Sectors, D: Sectors> User<L, D> {
         ensures refused { IfErr result (IsRefusedFor store.now self.old line.now) }
     {
         fitting_script();
-        let length = match judge_line(alloc, &store.shape, line) {
-            Ok(length) => length,
+        let (group, length) = match judge_line(alloc, &store.shape, line) {
+            Ok(made) => made,
             Err(Unfit::Misfit(misfit)) => return Err(Refused::Unfit(misfit)),
             Err(Unfit::NoMemory) => return Err(Refused::NoMemory),
         };
         if store.quota - self.used < length {
             return Err(Refused::Full);
         }
-        let Ok(group) = group_of(alloc, line, store.shape.space) else {
-            return Err(Refused::NoMemory);
-        };
         match give_line(
             alloc,
             store.shared.ring(),

@@ -27,8 +27,8 @@ fn last_end(user: &UserActor) -> u64
     requires { HasAnswered user.now }
     ensures { result ≡ last_end user.now }
 {
-    let last = user.group_count() - 1;
-    lsn_of(user.group_start(last) + user.group_length(last) as u64)
+    let (start, length) = user.last_group();
+    lsn_of(start + length as u64)
 }
 
 /// What a user that has ended was answered for its last line: the lsn at which its group ends; or the code of the failure by which

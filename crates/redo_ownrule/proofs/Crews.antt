@@ -1,18 +1,15 @@
 -- The players of a table, later, and the actors that they leave.
-use Rattle.std.proofs.Common.{Bool, List, None, Option, Some, [], ap, false, map, refl, suc, sym, true, zero, ℕ, ◌++◌}
-use Rattle.std.proofs.Common.{◌∙◌, ◌∷◌, ◌≡◌}
+use Rattle.std.proofs.Common.{Bool, List, None, Option, Some, [], ap, false, map, refl, suc, sym, true, zero, ℕ, ◌++◌, ◌∙◌, ◌∷◌, ◌≡◌}
 use Rattle.std.specs.List.{AllZip}
 use Rattle.std.specs.Prelude.{is_some}
 use Rattle.atomic_table.specs.Seated.{TableId}
 use Rattle.atomic_table.specs.declared.shared.Seat.{Seat}
-use Rattle.model_core.specs.Actors as model
-use Rattle.model_core.specs.Later.{IsSameActor}
-use Rattle.model_own.specs.OwnTurn.{all_actors}
-use Rattle.model_own.specs.OwnWrites.{LogWork, OwnUser}
-use Rattle.redo_drive.specs.Views.{view_of, views_of}
+use Rattle.model_core.specs.States as model
+use Rattle.model_core.specs.{IsSameActor}
+use Rattle.model_own.specs.{all_actors, LogWork, OwnUser}
+use Rattle.redo_drive.specs.{view_of, views_of}
 use Rattle.redo_drive.specs.declared.actor.Actor.{Actor}
-use Rattle.redo_ownrule.specs.Players.{actor_of, AreInOrder, ArePlain, crew, IsSamePlayer, MayRest, place, place_behind}
-use Rattle.redo_ownrule.specs.Players.{UsersFirst, workers_of}
+use Rattle.redo_ownrule.specs.Players.{actor_of, AreInOrder, ArePlain, crew, IsSamePlayer, MayRest, place, place_behind, UsersFirst, workers_of}
 use Rattle.redo_ownrule.specs.Playing.{IsPlayerSeat}
 use Rattle.redo_ownrule.specs.declared.player.Player.{Player}
 use Rattle.redo_ownrule.specs.declared.player.Player.TheVariants as player

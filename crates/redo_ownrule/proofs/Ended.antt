@@ -1,23 +1,16 @@
 -- What the rule says at the end, once all seats are taken in: what the run has come to, its players and the log's work.
-use Rattle.std.proofs.Common.{Bool, List, None, Option, Some, [], ap, arith, false, is_some, length, map, refl, subst}
-use Rattle.std.proofs.Common.{suc, sym, true, zero, ℕ, ◌+◌, ◌<◌, ◌∙◌, ◌∷◌, ◌≡◌}
+use Rattle.std.proofs.Common.{Bool, List, None, Option, Some, [], ap, arith, false, is_some, length, map, refl, subst, suc, sym, true, zero, ℕ, ◌+◌, ◌<◌, ◌∙◌, ◌∷◌, ◌≡◌}
 use Rattle.std.specs.Prelude.{slice_index}
 use lib.ListN.{get_elem?}
 use mathlib.Core.Option as maybe
 use native.Mathlib.Decide.{ℕ_discrete}
 use Rattle.atomic_table.specs.Table.{Final, Seen as SeenBy}
-use Rattle.model_core.specs.{CleanerState}
-use Rattle.model_core.specs.Actors as model
-use Rattle.model_core.specs.Hands.{hand}
-use Rattle.model_core.specs.LogSide.{LogSide}
-use Rattle.model_own.specs.OwnWrites.{LogWork}
+use Rattle.model_core.specs.{CleanerState, hand, LogSide}
+use Rattle.model_core.specs.States as model
+use Rattle.model_own.specs.{LogWork}
 use Rattle.model_running.proofs.Seated.{has_cleaner}
-use Rattle.redo_disk.specs.{Call}
-use Rattle.redo_disk.specs.Seen.{Seen}
-use Rattle.redo_drive.specs.Lists.{listing_at}
-use Rattle.redo_drive.specs.Playing.{run_log_side, RunOf}
-use Rattle.redo_drive.specs.Running.{RunsWith}
-use Rattle.redo_drive.specs.Views.{view_of, views_of}
+use Rattle.redo_disk.specs.{Call, Seen}
+use Rattle.redo_drive.specs.{listing_at, run_log_side, RunOf, RunsWith, view_of, views_of}
 use Rattle.redo_drive.specs.declared.actor.Actor.{Actor}
 use Rattle.redo_drive.specs.declared.parts.Parts.{Parts}
 use Rattle.redo_ownrule.proofs.Matched.{all_views, AreMatched, at_rest, hold_nothing, own_match, seated_there, SitsHere}
@@ -28,8 +21,8 @@ use Rattle.redo_ownrule.specs.Sharing.{AllAtRest}
 use Rattle.redo_ownrule.specs.declared.player.Player.{Player}
 use Rattle.redo_ownrule.specs.declared.player.Player.TheVariants as player
 use Rattle.redo_rule.specs.Cutting.{HoldNothing}
-use Rattle.redo_rule.specs.Ending.{RunReaches}
-use Rattle.redo_rule.specs.Handing.{HaveHandedOn, HaveLoaded}
+use Rattle.redo_rule.specs.Ending.{HaveLists, RunReaches}
+use Rattle.redo_rule.specs.Handing.{HaveHandedOn, HaveLoaded, HaveRead}
 use Rattle.redo_rule.specs.OwnSide.{desk_with, HasItsWork, OwnSide, SitsAs, work_of}
 use Rattle.redo_rule.specs.Ruled.{Knows, Ruled, starts_about}
 use Rattle.redo_rule.specs.Seating.{HasPart, IsCleaner}
@@ -71,6 +64,7 @@ record GoesOn {L D : Type 0} (log_seen : L → Seen) (data_seen : D → Seen) (a
   pub runs : RunsWith log_seen data_seen run archive parts actors
   pub hears : HaveHandedOn (run_log_side log_seen data_seen run) run.setup.base parts.log heard actors
       runs.running.log_ghost.log
+  pub reads : HaveRead run.setup parts.words.words heard runs.running.log_ghost.log
   pub loaded : HaveLoaded parts.words.words actors
 
 -- these are the actors of the players with the log's work, and at rest
@@ -131,6 +125,7 @@ pub record EndsAs {L D R : Type 0} (log_seen : L → Seen) (log_gives : L → Ca
   pub work : Option LogWork
   pub works : is_some work ≡ own
   pub reaches : RunReaches log_seen log_gives data_seen data_gives about all_heard (views_of (crew work ps)) ws xs
+  pub lists : HaveLists xs
   pub work_is : ◌≡◌ {A = Option LogWork} (work_of reaches.beside.own) work
   pub rest : HoldNothing (views_of (crew work ps))
   pub heard_is : (i : ℕ) (p : Player R) → get_elem? ps i ≡ maybe.some p
@@ -178,7 +173,7 @@ module _ {L D R : Type 0} (log_seen : L → Seen) (log_gives : L → Call → L 
       let s = final.0 in
       let A = its_actors in
       let now = subst (GoesOn log_seen data_seen about.archive Q.run Q.parts Q.heard) A.are
-      (record { runs = Q.runs; hears = Q.hears; loaded = Q.loaded }) in
+      (record { runs = Q.runs; hears = Q.hears; reads = Q.reads; loaded = Q.loaded }) in
       let free : (k : ℕ) → k < 5 → slice_index s.words (7 + k) ≡ 0 = λ k l.
       elim (ℕ_discrete (slice_index s.words (7 + k)) 0) [
         | yes z ↦ z
@@ -202,18 +197,22 @@ module _ {L D R : Type 0} (log_seen : L → Seen) (log_gives : L → Call → L 
           parts = Q.parts;
           runs = now.runs;
           hears = now.hears;
+          reads = now.reads;
           loaded = now.loaded;
           words_are = Q.words_are ∙ final.2;
           beside = Q.beside;
           log = final.4 0 (slot.Log (desk_with Q.parts.log Q.beside)) (Q.home 0 (omega arith) (free 0 (omega arith)));
-          lists = λ i l. final.4 (suc i) (slot.Pages (listing_at Q.parts.lists.lists i))
-              (Q.home (suc i) (omega arith) (free (suc i) (omega arith)));
           data_part = final.4 5 (slot.Data Q.parts.store)
               (Q.data_home (K.data_part (record { part = part.0; out = false }) part.1).2);
           log_calls = Q.log_calls;
           data_calls = Q.data_calls;
           log_shape = Q.log_shape;
         };
+        lists = λ i l. (
+          listing_at Q.parts.lists.lists i,
+          final.4 (suc i) (slot.Pages (listing_at Q.parts.lists.lists i))
+              (Q.home (suc i) (omega arith) (free (suc i) (omega arith))),
+        );
         work_is = refl;
         rest = A.rest;
         heard_is = λ i p at. (known i p at).heard_is;

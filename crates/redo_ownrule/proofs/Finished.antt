@@ -1,19 +1,16 @@
 -- A store is finished: its seats are taken in, its table is closed, and its players leave their actors.
-use Rattle.std.proofs.Common.{Bool, List, None, Option, [], ap, arith, drop, get_or, is_some, length, map, refl, subst}
-use Rattle.std.proofs.Common.{sym, true, ℕ, ◌+◌, ◌<◌, ◌∙◌, ◌≡◌, ◌≤◌}
+use Rattle.std.proofs.Common.{Bool, List, None, Option, [], ap, arith, drop, get_or, is_some, length, map, refl, subst, sym, true, ℕ, ◌+◌, ◌<◌, ◌∙◌, ◌≡◌, ◌≤◌}
 use lib.ListN.{get_elem?}
 use mathlib.Core.Option as maybe
 use Rattle.atomic_table.specs.Seated.{TableId}
 use Rattle.atomic_table.specs.Table.{Final, Seen as SeenBy}
 use Rattle.atomic_table.specs.declared.shared.Seat.{Seat}
-use Rattle.model_core.specs.Actors as model
-use Rattle.model_own.specs.OwnWrites.{LogWork}
+use Rattle.model_core.specs.States as model
+use Rattle.model_own.specs.{LogWork}
 use Rattle.model_report.specs.declared.entry.Entry.{Entry}
-use Rattle.redo_disk.specs.{Call}
-use Rattle.redo_disk.specs.Seen.{Seen}
-use Rattle.redo_drive.specs.History.{all_listed, ListsInOrder}
-use Rattle.redo_drive.specs.Reserved.{HasGroups}
-use Rattle.redo_drive.specs.Views.{view_of, views_of}
+use Rattle.redo_disk.specs.{Call, Seen}
+use Rattle.redo_drive.specs.{all_listed, ListsInOrder, view_of, views_of}
+use Rattle.redo_drive.specs.Reserved.{HasGroups, KeepsAll}
 use Rattle.redo_drive.specs.declared.actor.Actor.{Actor}
 use Rattle.redo_ownrule.proofs.Ended.{ends_as, EndsAs}
 use Rattle.redo_ownrule.proofs.Left.{many_workers}
@@ -22,7 +19,7 @@ use Rattle.redo_ownrule.specs.Gathering.{AreHandedOut}
 use Rattle.redo_ownrule.specs.Players.{actor_of, crew, place, seated, workers}
 use Rattle.redo_ownrule.specs.Sharing.{AllAtRest, AreActorsOf, AreSeatsOf}
 use Rattle.redo_ownrule.specs.declared.player.Player.{Player}
-use Rattle.redo_rule.proofs.Finishing.{groups, has_room, nothing_left}
+use Rattle.redo_rule.proofs.Finishing.{groups, has_room, keep_all, nothing_left}
 use Rattle.redo_rule.proofs.Gathered.{heard_at}
 use Rattle.redo_rule.specs.Closing.{LeavesParts, LeavesTable}
 use Rattle.redo_rule.specs.Cutting.{HoldNothing, IsFirst}
@@ -126,6 +123,12 @@ module _ {L D R : Type 0} (log_seen : L → Seen) (log_gives : L → Call → L 
     all_groups slice is = subst (λ (l : List (Actor R)). (seat : ℕ) (a : Actor R) → seat < length l
         → HasGroups (view_of (get_or l seat a))) (sym is)
         (groups log_seen log_gives data_seen data_gives about F.all_heard actors left F.parts)
+
+    pub all_kept : about.live ≡ None → (slice : List (Actor R)) → slice ≡ actors → (seat : ℕ) (a : Actor R)
+        → seat < length slice → KeepsAll (view_of (get_or slice seat a))
+    all_kept fixed slice is = subst (λ (l : List (Actor R)). (seat : ℕ) (a : Actor R) → seat < length l
+        → KeepsAll (view_of (get_or l seat a))) (sym is)
+        (keep_all log_seen log_gives data_seen data_gives about F.all_heard actors left F.parts fixed)
 
     -- the history is listed, as there is room for it
     pub its_list : about.live ≡ None → (slice : List (Actor R)) → slice ≡ actors → (room : ℕ)

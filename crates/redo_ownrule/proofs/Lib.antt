@@ -2,6 +2,8 @@ pub mod Crews
 pub mod Ended
 pub mod Finished
 pub mod Left
+pub mod LiveCount
+pub mod LiveEnded
 pub mod LiveLeft
 pub mod LiveOpened
 pub mod Losses
@@ -26,6 +28,7 @@ pub mod OwnLoading
 pub mod OwnMay
 pub mod OwnOps
 pub mod OwnPlaying
+pub mod OwnReads
 pub mod OwnStepping
 pub mod OwnTakes
 pub mod OwnTold

@@ -5,13 +5,15 @@ use Rattle.std.specs.List.{AllByRecursion}
 use Rattle.std.specs.Prelude.{IfSome}
 use lib.ListN.{get_elem?}
 use mathlib.Core.Option as maybe
-use Rattle.model_base.specs.{run_shape}
+use Rattle.model_base.specs.{IsWithinLimits, run_shape}
 use Rattle.model_base.specs.declared.shape.Shape.{Shape}
 use Rattle.model_core.specs.{entry, Line, line_at, line_of, UserState}
-use Rattle.model_core.specs.Actors as model
-use Rattle.model_core.specs.Groups as core
+use Rattle.model_core.specs.States as model
 use Rattle.model_logcore.specs.{UserFits}
-use Rattle.model_report.specs.{entries_of_user, lines_of_user}
+use Rattle.model_reads.proofs.Folds.{read_as_of}
+use Rattle.model_reads.specs.{AreRead, IsPageAsOf}
+use Rattle.model_reads.specs.declared.read.PageRead.{PageRead}
+use Rattle.model_report.specs.{entries_of_user, lines_of_user, wholes_of}
 use Rattle.model_report.specs.declared.entry.Entry.{Entry}
 use Rattle.model_report.specs.declared.entry.Marks.{Marks}
 use Rattle.model_running.proofs.Finished.{marks_same}
@@ -20,20 +22,20 @@ use Rattle.model_running.proofs.Seated.{seated_seats}
 use Rattle.model_running.specs.{history_of, word_marks}
 use Rattle.model_script.specs.{group_of, LineFits}
 use Rattle.model_script.specs.declared.script.ScriptLine.{ScriptLine}
-use Rattle.model_store.specs.Reading.{Reading}
-use Rattle.model_theorem.specs.{IsStart}
+use Rattle.model_store.specs.Scan.{Reading}
+use Rattle.model_theorem.specs.{IsStart, Opened}
 use Rattle.redo_disk.specs.{Call}
-use Rattle.redo_disk.specs.Seen.{Seen}
+use Rattle.redo_disk.specs.Sight.{Seen}
 use Rattle.redo_drive.proofs.LeftRun as left_run
 use Rattle.redo_drive.proofs.UserEntries.{listed_at, user_entries}
 use Rattle.redo_drive.specs.Beginning.{HaveBegun, IsRunWith}
-use Rattle.redo_drive.specs.History.{listed}
+use Rattle.redo_drive.specs.History.{listed, views_of}
 use Rattle.redo_drive.specs.Leaving.{LeavesAs}
-use Rattle.redo_drive.specs.Playing.{run_log_side}
+use Rattle.redo_drive.specs.Lists.{lists_of}
+use Rattle.redo_drive.specs.Running.{run_data_side, run_log_side}
 use Rattle.redo_drive.specs.Reserved.{listed_group}
 use Rattle.redo_drive.specs.Setups.{programs_of}
 use Rattle.redo_drive.specs.Startable.{HasReading}
-use Rattle.redo_drive.specs.Views.{views_of}
 use Rattle.redo_drive.specs.declared.actor.Actor.{Actor}
 use Rattle.redo_ownrule.specs.LiveLeaving.{closed_with, IsKept, LeavesLive}
 use Rattle.redo_rule.proofs.Finishing.{leaves_as, owes_as}
@@ -75,7 +77,7 @@ kept_group marks u history are k below answered = record {
       ∙ ap (λ (n : ℕ). Some (listed_group marks u n (slice_index u.starts k))) (let e : 0 + k ≡ k = omega arith in e);
   start = refl;
   kept = λ lost.
-      let e : core.Entry = entry u.user k (slice_index u.starts k) (line_at u.lines k) in
+      let e : model.Entry = entry u.user k (slice_index u.starts k) (line_at u.lines k) in
       let late : u.k ≤ k = lost_unanswered u.k marks e lost in absurd (omega arith);
 }
 
@@ -83,9 +85,7 @@ module _ {L D R : Type 0} (log_seen : L → Seen) (log_gives : L → Call → L 
     (data_gives : D → Call → D → Type 0) (about : About L D) (live : Live) (is_live : about.live ≡ Some live)
     (no_script : about.script.value ≡ []) (apart : about.archive ≡ false) (runnable : IsRunnable about.opened.value)
     (heard : ℕ → Heard) (actors : List (Actor R)) (left : Left L D)
-    (P : LeavesParts log_seen log_gives data_seen data_gives about heard (views_of actors) left) (out : Left L D)
-    (log_is : out.log ≡ left.log) (store_is : out.store ≡ left.store)
-    (marks_is : ◌≡◌ {A = Marks} out.marks left.marks) (code_is : out.code ≡ left.code) where
+    (P : LeavesParts log_seen log_gives data_seen data_gives about heard (views_of actors) left) where
   abbrev script : List ScriptLine
   script = P.is_about.script
 
@@ -126,15 +126,15 @@ module _ {L D R : Type 0} (log_seen : L → Seen) (log_gives : L → Call → L 
   loss = subst (λ (b : Bool). TellsLoss b (views_of actors) None) (sym apart) refl
 
   pub leaves_closed : LeavesAs log_seen log_gives data_seen data_gives (λ r l. Unit {0}) about.opened.value script true
-      about.log_only about.archive about.followers actors actors (closed_with out history)
-  leaves_closed = leaves_as log_seen log_gives data_seen data_gives about heard actors left P (closed_with out history)
-      log_is store_is marks_is code_is refl loss true script is_run begun
+      about.log_only about.archive about.followers actors actors (closed_with left history)
+  leaves_closed = leaves_as log_seen log_gives data_seen data_gives about heard actors left P (closed_with left history)
+      refl refl refl refl refl loss true script is_run begun
 
-  its_marks : ◌≡◌ {A = Marks} out.marks (word_marks P.runs.running.shared)
-  its_marks = marks_is ∙ P.marks ∙ marks_same P.last.words.words P.runs.running.shared P.runs.running.flat_is
+  its_marks : ◌≡◌ {A = Marks} left.marks (word_marks P.runs.running.shared)
+  its_marks = P.marks ∙ marks_same P.last.words.words P.runs.running.shared P.runs.running.flat_is
 
   groups : (seat : ℕ) (u : UserState) → get_elem? (views_of actors) seat ≡ maybe.some (model.User u)
-      → ◌≡◌ {A = List Entry} (entries_of_user u.user history) (listed out.marks (model.User u))
+      → ◌≡◌ {A = List Entry} (entries_of_user u.user history) (listed left.marks (model.User u))
   groups seat u at =
       user_entries log_seen data_seen P.run P.last (views_of actors) P.runs seat u at
       ∙ ap (λ (z : Marks). listed z (model.User u)) (sym its_marks)
@@ -151,9 +151,28 @@ module _ {L D R : Type 0} (log_seen : L → Seen) (log_gives : L → Call → L 
       ∙ ap (λ (b : Bool). let l : Line = line_of b about.opened.value.shape one.mode
       (group_of about.opened.value.shape.space one) in l) is_run.log_only_is)
 
+  -- the store as it was opened
+  abbrev opened : Opened
+  opened = record { shape = about.opened.value.shape; pages = about.opened.value.pages; end = 0 }
+
+  abbrev IsAsOf : PageRead → Type 0
+  IsAsOf = IsPageAsOf about.opened.value.pages (wholes_of script about.opened.value.shape.space history)
+
+  -- WHAT WAS READ IS THE PAGE AS OF ITS LSN
+  all_as_of : about.log_only ≡ false → (rs : List PageRead)
+      → AreRead P.run.setup P.last.words.words P.runs.running.log_ghost.log rs → AllByRecursion IsAsOf rs
+  all_as_of with_pages [] all = tt
+  all_as_of with_pages (r ∷ rs) all = let W = P.runs.running in (
+    read_as_of (run_log_side log_seen data_seen P.run) (run_data_side log_seen data_seen P.run) P.run.setup
+        W.shared W.log_ghost W.page_ghost (lists_of P.last.lists) P.last.log P.last.store (views_of actors) W.both script
+        opened (subst IsWithinLimits is_run.shape P.runs.limits) room.fits is_run.its_pages is_run.of_script
+        (is_run.log_only_is ∙ with_pages) P.last.words.words r all.0,
+    all_as_of with_pages rs all.1,
+  )
+
   -- WHAT IT LEAVES
   pub leaves_live : LeavesLive log_seen log_gives data_seen data_gives about.opened.value about.log_only
-      (views_of actors) out
+      (views_of actors) (λ n. (heard n).reads) left
   leaves_live = record {
     script = script;
     lines = room.lines;
@@ -163,13 +182,14 @@ module _ {L D R : Type 0} (log_seen : L → Seen) (log_gives : L → Call → L 
         is_run.of_script;
     history = history;
     of_groups = groups;
-    is_kept = λ seat u at k below answered. kept_group out.marks u history (groups seat u at) k below answered;
+    is_kept = λ seat u at k below answered. kept_group left.marks u history (groups seat u at) k below answered;
+    are_read = λ with_pages n. all_as_of with_pages (heard n).reads (P.reads n).done;
     is_run = left_run.is_run log_seen log_gives data_seen data_gives (λ r l. Unit {0}) about.opened.value script
-        about.log_only about.followers actors actors (done_with (closed_with out history)) leaves_closed;
-    owed = owes_as log_seen log_gives data_seen data_gives about heard actors left P (closed_with out history)
-        log_is store_is marks_is code_is refl loss true script is_run begun runnable;
+        about.log_only about.followers actors actors (done_with (closed_with left history)) leaves_closed;
+    owed = owes_as log_seen log_gives data_seen data_gives about heard actors left P (closed_with left history)
+        refl refl refl refl refl loss true script is_run begun runnable;
     reaches = reaches_all log_seen log_gives data_seen data_gives (λ r l. Unit {0}) about.opened.value script
-        about.log_only about.archive about.followers actors actors (closed_with out history) leaves_closed;
+        about.log_only about.archive about.followers actors actors (closed_with left history) leaves_closed;
     cause = code_has_cause log_seen log_gives data_seen data_gives (λ r l. Unit {0}) about.opened.value script
-        about.log_only about.archive about.followers actors actors (closed_with out history) leaves_closed;
+        about.log_only about.archive about.followers actors actors (closed_with left history) leaves_closed;
   }

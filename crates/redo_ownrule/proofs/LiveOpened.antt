@@ -1,7 +1,7 @@
 -- A store that is shared as a live run begins: the rule holds of its table, and the first seat knows all players.
 use Rattle.std.proofs.Common.{Bool, Global, List, None, Option, Some, Vec, [], ap, arith, cond, false, is_some}
 use Rattle.std.proofs.Common.{length}
-use Rattle.std.proofs.Common.{map, refl, subst, sym, true, ℕ, ◌*◌, ◌+◌, ◌<◌, ◌∙◌, ◌∷◌, ◌≡◌, ◌≤◌}
+use Rattle.std.proofs.Common.{map, refl, subst, sym, ℕ, ◌*◌, ◌+◌, ◌<◌, ◌∙◌, ◌≡◌, ◌≤◌}
 use Rattle.std.proofs.lemmas.Bool.Decides.{nat_tests}
 use Rattle.std.proofs.lemmas.List.{length-map}
 use Rattle.std.specs.Prelude.{IfSome, IsSome, vec_capacity}
@@ -10,7 +10,7 @@ use mathlib.Core.Option as maybe
 use Rattle.atomic_table.specs.Table.{Me, opening}
 use Rattle.model_base.specs.declared.limits.TheConstants.{LSN_LIMIT}
 use Rattle.model_core.specs.{Given, lsn, word_count}
-use Rattle.model_core.specs.Actors as model
+use Rattle.model_core.specs.States as model
 use Rattle.model_core.specs.Hands.{HoldsNothing}
 use Rattle.model_core.specs.declared.words.Layout.{Layout}
 use Rattle.model_log.specs.{lsn_of, sn_of}
@@ -18,12 +18,12 @@ use Rattle.model_logcore.proofs.StartEmpty.{start_empty}
 use Rattle.model_own.specs.OwnWrites.{LogWork}
 use Rattle.model_running.proofs.Places.{lsn_is}
 use Rattle.redo_disk.specs.{Call}
-use Rattle.redo_disk.specs.Seen.{Seen}
+use Rattle.redo_disk.specs.Sight.{Seen}
 use Rattle.redo_drive.proofs.Viewed.{length_views}
 use Rattle.redo_drive.specs.Begins.{BeginsLive}
 use Rattle.redo_drive.specs.Lists.{AreLists}
 use Rattle.redo_drive.specs.LiveActors.{live_actors}
-use Rattle.redo_drive.specs.Views.{views_of}
+use Rattle.redo_drive.specs.History.{views_of}
 use Rattle.redo_drive.specs.declared.actor.Actor.{Actor}
 use Rattle.redo_drive.specs.declared.making.Beginning.{Beginning}
 use Rattle.redo_ownrule.proofs.Placed.{alone as alone_crew}

@@ -3,10 +3,10 @@ use Rattle.std.proofs.Common.{Bool, List, None, Option, Some, [], ap, false, map
 use lib.ListN.{get_elem?}
 use mathlib.Core.Option as maybe
 use Rattle.model_core.specs.{ReaderState}
-use Rattle.model_core.specs.Actors as model
-use Rattle.model_own.specs.OwnWrites.{LogWork}
+use Rattle.model_core.specs.States as model
+use Rattle.model_own.specs.{LogWork}
 use Rattle.redo_disk.specs.declared.error.DevError.{DevError}
-use Rattle.redo_drive.specs.Views.{views_of}
+use Rattle.redo_drive.specs.{views_of}
 use Rattle.redo_drive.specs.declared.actor.Actor.{Actor}
 use Rattle.redo_ownrule.proofs.Placed.{alone}
 use Rattle.redo_ownrule.specs.Players.{actor_of, crew}

@@ -1,13 +1,9 @@
 -- The actors of a run, as players who have seats know them.
-use Rattle.std.proofs.Common.{List, None, Some, [], ap, arith, false, length, length-append, map, refl}
-use Rattle.std.proofs.Common.{subst, suc, sym, zero, ℕ, ⊎_elim, ◌+◌, ◌∙◌, ◌∷◌, ◌≡◌, ◌≤◌}
+use Rattle.std.proofs.Common.{List, None, Some, [], ap, arith, false, length, length-append, map, refl, subst, suc, sym, zero, ℕ, ⊎_elim, ◌+◌, ◌∙◌, ◌∷◌, ◌≡◌, ◌≤◌}
 use lib.ListN.{get_elem?}
 use mathlib.Core.Option as maybe
-use Rattle.model_core.specs.{FlusherState, UserState, WriterState}
-use Rattle.model_core.specs.Actors as model
-use Rattle.model_core.specs.Hands.{flusher_hand, HoldsNothing, writer_hand}
-use Rattle.model_core.specs.Holding.{writer_holds_tail}
-use Rattle.model_core.specs.LogSide.{LogSide}
+use Rattle.model_core.specs.{FlusherState, UserState, WriterState, flusher_hand, HoldsNothing, writer_hand, writer_holds_tail, LogSide}
+use Rattle.model_core.specs.States as model
 use Rattle.model_core.specs.declared.steps.AdvanceStep.TheVariants as advance_step
 use Rattle.model_core.specs.declared.steps.FlusherStep.{FlusherStep}
 use Rattle.model_core.specs.declared.steps.FlusherStep.TheVariants as flusher_step
@@ -15,12 +11,10 @@ use Rattle.model_core.specs.declared.steps.WriterStep.{WriterStep}
 use Rattle.model_core.specs.declared.steps.WriterStep.TheVariants as writer_step
 use Rattle.model_core.specs.declared.words.LinkBuffer.{LinkBuffer}
 use Rattle.model_core.specs.declared.words.LinkBuffer.TheVariants as link_buffer
-use Rattle.model_own.specs.OwnTurn.{all_actors}
-use Rattle.model_own.specs.OwnWrites.{LogWork, OwnUser}
-use Rattle.model_own.specs.ErrandFits.{has_work}
+use Rattle.model_own.specs.{all_actors, LogWork, OwnUser, has_work}
 use Rattle.model_own.specs.declared.errand.ErrandStep.TheVariants as errand_step
 use Rattle.model_ownrun.specs.OwnRunning.{Errands, IsFlusherAtRest, IsWriterAtRest, WorkFits}
-use Rattle.redo_drive.specs.Views.{view_of, views_of}
+use Rattle.redo_drive.specs.{view_of, views_of}
 use Rattle.redo_ownrule.specs.Players.{actor_of, crew, IsAtRest, numbered_as, place_behind, seated}
 use Rattle.redo_ownrule.specs.Sharing.{AllAtRest}
 use Rattle.redo_ownrule.specs.declared.player.Player.{Player}

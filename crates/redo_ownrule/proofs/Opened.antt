@@ -5,22 +5,21 @@ use Rattle.std.specs.Prelude.{IfSome, IsSome, vec_capacity}
 use lib.ListN.{get_elem?}
 use mathlib.Core.Option as maybe
 use Rattle.atomic_table.specs.Table.{Me, opening}
-use Rattle.model_base.specs.declared.shape.Shape.{Shape}
 use Rattle.model_core.specs.{CleanerState, Given, word_count}
-use Rattle.model_core.specs.Actors as model
-use Rattle.model_core.specs.Setup.{Setup}
+use Rattle.model_core.specs.States as model
+use Rattle.model_core.specs.Setups.{Setup}
 use Rattle.model_logcore.specs.{StartActor}
 use Rattle.model_own.specs.OwnWrites.{LogWork}
 use Rattle.model_running.proofs.Seated.{no_cleaner}
 use Rattle.model_running.specs.{AreSeated}
 use Rattle.redo_disk.specs.{Call}
-use Rattle.redo_disk.specs.Seen.{Seen}
+use Rattle.redo_disk.specs.Sight.{Seen}
 use Rattle.redo_drive.proofs.Viewed.{length_views}
 use Rattle.redo_drive.specs.Begins.{BeginsWith}
 use Rattle.redo_drive.specs.Lists.{AreLists}
-use Rattle.redo_drive.specs.Playing.{run_log_side}
+use Rattle.redo_drive.specs.Running.{run_log_side}
 use Rattle.redo_drive.specs.Startable.{MayBegin}
-use Rattle.redo_drive.specs.Views.{view_of, views_of}
+use Rattle.redo_drive.specs.History.{view_of, views_of}
 use Rattle.redo_drive.specs.declared.actor.Actor.{Actor}
 use Rattle.redo_drive.specs.declared.making.Beginning.{Beginning}
 use Rattle.redo_follow.specs.Following.{Following}

@@ -1,27 +1,23 @@
 -- Steps on words, and the taking of DEVICE, by a user that writes for itself keep the rule.
-use Rattle.std.proofs.Common.{Bool, List, None, Option, Some, [], ap, arith, cond, false, get_or-set_other, inl, inr, is_some}
-use Rattle.std.proofs.Common.{refl, subst, suc, sym, true, zero, ℕ, ◌+◌, ◌<◌, ◌∙◌, ◌∷◌, ◌≡◌, ◌≢◌, ◌⊎◌}
+use Rattle.std.proofs.Common.{Bool, List, None, Option, Some, [], ap, arith, cond, false, get_or-set_other, inl, inr, is_some, refl, subst, suc, sym, true, zero, ℕ, ◌+◌, ◌<◌, ◌∙◌, ◌∷◌, ◌≡◌, ◌≢◌, ◌⊎◌}
 use Rattle.std.proofs.lemmas.List.{set-get_or}
 use Rattle.std.specs.Prelude.{slice_index, slice_set}
 use lib.ListN.{get_elem?}
 use mathlib.Core.Option as maybe
 use Rattle.atomic_table.specs.Table.{Allows, keeps, Me, State}
 use Rattle.model_core.proofs.Lists.{set_again}
-use Rattle.model_core.specs.{OnWord, word_found, words_after}
-use Rattle.model_core.specs.Actors as model
-use Rattle.model_core.specs.Hands.{hand, IsFreeToCheck}
+use Rattle.model_core.specs.{OnWord, word_found, words_after, hand, IsFreeToCheck}
+use Rattle.model_core.specs.States as model
 use Rattle.model_core.specs.declared.words.Layout.{Layout}
 use Rattle.model_core.specs.declared.ops.Answer.{Answer}
 use Rattle.model_core.specs.declared.ops.Answer.TheVariants as answer
 use Rattle.model_core.specs.declared.ops.Op.{Op}
-use Rattle.model_own.specs.OwnWrites.{LogWork, own_goes_on, own_lends, own_next, OwnUser}
-use Rattle.model_own.specs.ErrandFits.{ErrandFits, has_work}
-use Rattle.redo_disk.specs.{Call}
-use Rattle.redo_disk.specs.Seen.{Seen}
+use Rattle.model_own.specs.{LogWork, own_goes_on, own_lends, own_next, OwnUser, has_work}
+use Rattle.model_own.specs.ErrandFits.{ErrandFits}
+use Rattle.redo_disk.specs.{Call, Seen}
 use Rattle.redo_drive.proofs.MayTurn.{holds_sum}
 use Rattle.redo_drive.proofs.Played as played
-use Rattle.redo_drive.specs.Lists.{listing_at, Listings, lists_of}
-use Rattle.redo_drive.specs.Playing.{HasSamePages, IsPlayed}
+use Rattle.redo_drive.specs.{listing_at, Listings, lists_of, HasSamePages, IsPlayed}
 use Rattle.redo_drive.specs.declared.parts.Parts.{Parts}
 use Rattle.redo_logdev.specs.Part as log
 use Rattle.redo_ownrule.proofs.OwnMay as may
@@ -29,8 +25,7 @@ use Rattle.redo_ownrule.proofs.OwnOps as ops
 use Rattle.redo_ownrule.proofs.OwnTurns as turns
 use Rattle.redo_ownrule.proofs.OwnUserHands as hands
 use Rattle.redo_ownrule.proofs.OwnWords.{stays_aside}
-use Rattle.redo_ownrule.specs.OwnPlays.{errand_of, HasWork, held_behind, IsOwn, own_looked, own_saw, own_view, OwnMayGo, WorkInHand}
-use Rattle.redo_ownrule.specs.OwnPlays.{OwnStepped, with_work}
+use Rattle.redo_ownrule.specs.OwnPlays.{errand_of, HasWork, held_behind, IsOwn, own_looked, own_saw, own_view, OwnMayGo, WorkInHand, OwnStepped, with_work}
 use Rattle.redo_rule.proofs.Holders as holders
 use Rattle.redo_rule.proofs.Kept as kept
 use Rattle.redo_rule.proofs.Retook.{one_head}

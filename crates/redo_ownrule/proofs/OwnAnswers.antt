@@ -4,12 +4,11 @@ use Rattle.atomic_table.specs.Seated.{TableId}
 use Rattle.atomic_table.specs.Table.{Me, rest}
 use Rattle.atomic_table.specs.declared.shared.Seat.{Seat}
 use Rattle.model_core.specs.{word_count}
-use Rattle.model_core.specs.Actors as model
+use Rattle.model_core.specs.States as model
 use Rattle.model_core.specs.declared.ops.Answer.{Answer}
 use Rattle.model_core.specs.declared.ops.Step.{Step}
-use Rattle.model_own.specs.OwnWrites.{LogWork, own_goes_on, own_step_of, OwnUser}
-use Rattle.model_own.specs.ErrandFits.{has_work}
-use Rattle.redo_disk.specs.Seen.{Seen}
+use Rattle.model_own.specs.{LogWork, own_goes_on, own_step_of, OwnUser, has_work}
+use Rattle.redo_disk.specs.{Seen}
 use Rattle.redo_ownrule.proofs.OwnDesk.{same_work}
 use Rattle.redo_ownrule.proofs.OwnFree.{own_free}
 use Rattle.redo_ownrule.proofs.OwnOps as ops

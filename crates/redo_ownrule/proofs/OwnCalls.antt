@@ -1,6 +1,5 @@
 -- A call of the log part by a user that has the log's work in hand keeps the rule.
-use Rattle.std.proofs.Common.{List, None, Option, Some, [], ap, false, inl, inr}
-use Rattle.std.proofs.Common.{refl, subst, suc, sym, true, ℕ, ◌+◌, ◌<◌, ◌∙◌, ◌∷◌, ◌≡◌, ◌≢◌, ◌⊎◌}
+use Rattle.std.proofs.Common.{List, None, Option, Some, [], ap, false, inl, inr, refl, subst, suc, sym, true, ℕ, ◌+◌, ◌<◌, ◌∙◌, ◌∷◌, ◌≡◌, ◌≢◌, ◌⊎◌}
 use Rattle.std.proofs.lemmas.List.{set-get_or}
 use Rattle.std.specs.Prelude.{slice_index, slice_set}
 use lib.ListN.{get_elem?}
@@ -9,19 +8,16 @@ use Rattle.atomic_table.specs.Table.{Allows, keeps, Me, State}
 use Rattle.model_core.specs.declared.ops.Answer.{Answer}
 use Rattle.model_core.specs.declared.ops.Op.{Op}
 use Rattle.model_core.specs.declared.ops.Op.TheVariants as op
-use Rattle.model_own.specs.OwnWrites.{LogWork, own_goes_on, own_lends, own_next, OwnUser}
-use Rattle.model_own.specs.ErrandFits.{has_work}
-use Rattle.redo_disk.specs.{Call}
-use Rattle.redo_disk.specs.Seen.{Seen}
+use Rattle.model_own.specs.{LogWork, own_goes_on, own_lends, own_next, OwnUser, has_work}
+use Rattle.redo_disk.specs.{Call, EndWith, MakesCalls, Seen}
 use Rattle.redo_drive.proofs.Played as played
-use Rattle.redo_drive.specs.Playing.{HasSamePages, IsPlayed}
+use Rattle.redo_drive.specs.{HasSamePages, IsPlayed, run_log_side, RunOf, told_by, CallsOn, call_answer, call_code}
 use Rattle.redo_drive.specs.declared.parts.Parts.{Parts}
 use Rattle.redo_logdev.specs.Part as log
 use Rattle.redo_ownrule.proofs.OwnOps as ops
 use Rattle.redo_ownrule.proofs.OwnTurns as turns
 use Rattle.redo_ownrule.proofs.OwnUserHands as hands
-use Rattle.redo_ownrule.specs.OwnPlays.{HasWork, IsOwn, own_view, WorkInHand}
-use Rattle.redo_ownrule.specs.OwnPlays.{OwnStepped, with_work}
+use Rattle.redo_ownrule.specs.OwnPlays.{HasWork, IsOwn, own_view, WorkInHand, OwnStepped, with_work, own_called}
 use Rattle.redo_rule.proofs.AllowedCalls.{one_slot}
 use Rattle.redo_rule.proofs.Kept as kept
 use Rattle.redo_rule.specs.OwnSide.{Beside, desk_with}
@@ -33,19 +29,13 @@ use Rattle.redo_rule.specs.declared.law.Slot.{Slot}
 use Rattle.redo_rule.specs.declared.law.Slot.TheVariants as slot
 use Rattle.redo_rule.specs.declared.law.View.{View}
 use Rattle.model_core.specs.{LogServed, lsn}
-use Rattle.redo_disk.specs.{EndWith, MakesCalls}
 use Rattle.redo_drive.proofs.CallsOn.{calls_then}
 use Rattle.redo_drive.proofs.Played.{CallsLog}
 use Rattle.redo_drive.proofs.ShapeStays.{served_shape}
-use Rattle.redo_drive.specs.Calls.{CallsOn}
-use Rattle.redo_drive.specs.Devices.{call_code}
-use Rattle.redo_drive.specs.Failures.{call_answer}
 use Rattle.redo_drive.specs.LogPartSide as log_part
-use Rattle.redo_drive.specs.Playing.{run_log_side, RunOf, told_by}
 use Rattle.redo_drive.specs.declared.device.Device.TheVariants.{Log}
 use Rattle.redo_ownrule.proofs.OwnAllowed as allowed
 use Rattle.redo_ownrule.proofs.OwnAllowed.{by_slot}
-use Rattle.redo_ownrule.specs.OwnPlays.{own_called}
 
 -- a call that a user with the log's work in hand makes
 abbrev pub IsWorkCall : Op → Type 0

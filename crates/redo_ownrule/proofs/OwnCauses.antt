@@ -1,16 +1,14 @@
 -- Why an answer of `play` came, of a user that writes for itself: a wait met its condition, an end was one, and a
 -- failure had a cause.
-use Rattle.std.proofs.Common.{Bool, List, ap, cond, false, inl, inr, is_some, length, subst, sym, true, ℕ, ⊎_elim}
-use Rattle.std.proofs.Common.{◌<◌, ◌∙◌, ◌≡◌, ◌⊎◌}
+use Rattle.std.proofs.Common.{Bool, List, ap, cond, false, inl, inr, is_some, length, subst, sym, true, ℕ, ⊎_elim, ◌<◌, ◌∙◌, ◌≡◌, ◌⊎◌}
 use lib.ListN.{get_elem?}
 use mathlib.Core.Option.{some, some-injective}
 use Rattle.model_core.proofs.Endings.{ended_of, idle_of, quiet, resting_code, resting_free, turn_ends}
 use Rattle.model_core.proofs.Lists.{set_at}
 use Rattle.model_core.proofs.Rests.{rests}
-use Rattle.model_core.specs.{answer_of, is_checking, old_of, own_op}
-use Rattle.model_core.specs.Actors as model
-use Rattle.model_core.specs.LogSide.{LogSide}
-use Rattle.model_core.specs.Waiting.{ending}
+use Rattle.model_core.specs.{answer_of, is_checking, old_of, own_op, LogSide}
+use Rattle.model_core.specs.States as model
+use Rattle.model_core.specs.Program.{ending}
 use Rattle.model_core.specs.declared.ops.Answer.{Answer}
 use Rattle.model_core.specs.declared.ops.Answer.TheVariants as answer
 use Rattle.model_core.specs.declared.ops.Op.TheVariants as op
@@ -18,12 +16,10 @@ use Rattle.model_core.specs.declared.ops.Step.{Step}
 use Rattle.model_core.specs.declared.ops.Step.TheVariants as step
 use Rattle.model_core.specs.declared.steps.UserStep.TheVariants as user_step
 use Rattle.model_core.specs.declared.words.Word.TheVariants as word
-use Rattle.model_own.specs.OwnWrites.{errand_op, LogWork, own_goes_on, own_next, own_step_of, OwnUser}
+use Rattle.model_own.specs.{errand_op, LogWork, own_goes_on, own_next, own_step_of, OwnUser}
 use Rattle.model_ownrun.proofs.Seats.{user_there}
-use Rattle.redo_disk.specs.Seen.{Seen}
-use Rattle.redo_drive.specs.Lists.{lists_of}
-use Rattle.redo_drive.specs.Playing.{run_log_side}
-use Rattle.redo_drive.specs.Turning.{code_in}
+use Rattle.redo_disk.specs.{Seen}
+use Rattle.redo_drive.specs.{lists_of, run_log_side, code_in}
 use Rattle.redo_ownmachine.specs.OwnSeats.{actors_of}
 use Rattle.redo_ownrule.proofs.OwnEnds.{good_end, own_ended, own_ends, own_fails, own_idle}
 use Rattle.redo_ownrule.proofs.OwnMay.{its_hand}

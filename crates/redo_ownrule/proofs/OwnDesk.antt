@@ -1,6 +1,6 @@
 -- The log's work beside the log part.
 use Rattle.std.proofs.Common.{None, Option, Some, ap, ◌≡◌}
-use Rattle.model_own.specs.OwnWrites.{LogWork}
+use Rattle.model_own.specs.{LogWork}
 
 abbrev work_or : LogWork → Option LogWork → LogWork
 work_or d None = d

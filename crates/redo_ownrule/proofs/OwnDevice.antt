@@ -1,25 +1,21 @@
 -- What the taking and the giving of DEVICE, and a call of the log part, ask of the table and leave of a user's seat.
-use Rattle.std.proofs.Common.{Bool, List, None, Option, Some, [], ap, arith, false, is_some, refl, subst, sym, true, ℕ}
-use Rattle.std.proofs.Common.{◌<◌, ◌==◌, ◌∙◌, ◌∷◌, ◌≡◌, ◌≢◌}
+use Rattle.std.proofs.Common.{Bool, List, None, Option, Some, [], ap, arith, false, is_some, refl, subst, sym, true, ℕ, ◌<◌, ◌==◌, ◌∙◌, ◌∷◌, ◌≡◌, ◌≢◌}
 use prog.Atomic.{either}
 use Rattle.atomic_table.specs.Seated.{TableId}
 use Rattle.atomic_table.specs.Table.{Allows, Me, rest}
 use Rattle.atomic_table.specs.declared.shared.Seat.{Seat}
 use Rattle.model_core.specs.{LogServed, lsn}
-use Rattle.model_core.specs.Actors as model
+use Rattle.model_core.specs.States as model
 use Rattle.model_core.specs.declared.ops.Answer.{Answer}
 use Rattle.model_core.specs.declared.ops.Answer.TheVariants as answer
 use Rattle.model_core.specs.declared.ops.Op.{Op}
 use Rattle.model_core.specs.declared.ops.Op.TheVariants as op
-use Rattle.model_own.specs.OwnWrites.{LogWork, own_goes_on, own_lends, own_next, OwnUser}
-use Rattle.model_own.specs.ErrandFits.{has_work}
+use Rattle.model_own.specs.{LogWork, own_goes_on, own_lends, own_next, OwnUser, errand_lends, own_step_of, has_work}
 use Rattle.model_own.specs.declared.errand.ErrandStep.{ErrandStep}
 use Rattle.model_own.specs.declared.errand.ErrandStep.TheVariants as errand_step
-use Rattle.redo_disk.specs.{Call, EndWith, MakesCalls}
-use Rattle.redo_disk.specs.Seen.{Seen}
-use Rattle.redo_drive.specs.Devices.{call_code}
+use Rattle.redo_disk.specs.{Call, EndWith, MakesCalls, Seen}
+use Rattle.redo_drive.specs.{call_code, LogReady}
 use Rattle.redo_drive.specs.LogPartSide as log_part
-use Rattle.redo_drive.specs.Playing.{LogReady}
 use Rattle.redo_drive.specs.declared.device.Device.TheVariants.{Log}
 use Rattle.redo_logdev.specs.Part as log
 use Rattle.redo_ownrule.proofs.OwnAnswers as answers
@@ -31,9 +27,8 @@ use Rattle.redo_ownrule.proofs.OwnOps as ops
 use Rattle.redo_ownrule.proofs.OwnTakes as takes
 use Rattle.redo_ownrule.proofs.OwnUserHands as hands
 use Rattle.redo_ownrule.specs.OwnMine.{CarriesWork, HasStepped, IsAnswering, KeepsOwnSeat, OwnHasPlayed, OwnMine}
-use Rattle.redo_ownrule.specs.OwnPlays.{HasWork, own_called, own_gave, own_seized}
-use Rattle.redo_ownrule.specs.OwnPlays.{OwnMayGo, OwnStepped, with_work}
-use Rattle.redo_ownrule.specs.OwnSlots.{MayTakeIn, TookIn}
+use Rattle.redo_ownrule.specs.OwnPlays.{HasWork, own_called, own_gave, own_seized, OwnMayGo, OwnStepped, with_work}
+use Rattle.redo_ownrule.specs.OwnSlots.{MayTakeIn, TookIn, MayWriteIn}
 use Rattle.redo_ownrule.specs.Playing.{OwnAsks}
 use Rattle.redo_rule.proofs.Kept.{same_desk, same_slot}
 use Rattle.redo_rule.specs.Plays.{Carries, taking}
@@ -44,12 +39,10 @@ use Rattle.redo_rule.specs.declared.law.Slot.{Slot}
 use Rattle.redo_rule.specs.declared.law.Slot.TheVariants as slot
 use Rattle.redo_rule.specs.declared.law.View.{View}
 use Rattle.redo_ownrule.proofs.OwnStepping as stepping
-use Rattle.redo_ownrule.specs.OwnSlots.{MayWriteIn}
 use Rattle.redo_rule.specs.Slots.{IsLog}
 use Rattle.redo_words.specs.{Lends}
 use Rattle.redo_words.specs.declared.lent.Lent.{Lent}
 use Rattle.redo_words.specs.declared.lent.Lent.TheVariants as lent
-use Rattle.model_own.specs.OwnWrites.{errand_lends, own_step_of}
 use Rattle.model_core.specs.declared.ops.Step.{Step}
 
 module _ {L D : Type 0} {table : TableId} {seat : Seat (Slot L D) (View L D)} {o : OwnUser}

@@ -1,14 +1,11 @@
 -- How a step of a user that writes for itself ends, by its program.
 use Rattle.std.proofs.Common.{Bool, ap, cond, false, inl, inr, refl, subst, sym, true, ℕ, ⊎_elim, ◌==◌, ◌∙◌, ◌≡◌, ◌⊎◌}
 use Rattle.model_core.proofs.Endings.{user_failed}
-use Rattle.model_core.proofs.FailedSteps.{flusher_near_or, flusher_on, flusher_quiet, turn_fails}
-use Rattle.model_core.proofs.FailedSteps.{writer_near_or, writer_on, writer_quiet}
+use Rattle.model_core.proofs.FailedSteps.{flusher_near_or, flusher_on, flusher_quiet, turn_fails, writer_near_or, writer_on, writer_quiet}
 use Rattle.model_core.proofs.Waiting.{wait_checks}
-use Rattle.model_core.specs.{flusher_took, FlusherState, heard, old_of, user_ending, user_op, user_took, user_waits}
-use Rattle.model_core.specs.{UserState, writer_took, WriterState}
-use Rattle.model_core.specs.Actors as model
-use Rattle.model_core.specs.Answers.{on_take}
-use Rattle.model_core.specs.Hands.{GivesFailed}
+use Rattle.model_core.specs.{flusher_took, FlusherState, heard, old_of, user_ending, user_op, user_took, user_waits, UserState, writer_took, WriterState, GivesFailed}
+use Rattle.model_core.specs.States as model
+use Rattle.model_core.specs.ActorProgram.{on_take}
 use Rattle.model_core.specs.declared.ops.Answer.{Answer}
 use Rattle.model_core.specs.declared.ops.Answer.TheVariants as answer
 use Rattle.model_core.specs.declared.ops.Op.TheVariants as op
@@ -22,11 +19,8 @@ use Rattle.model_core.specs.declared.steps.WriterStep.{WriterStep}
 use Rattle.model_core.specs.declared.steps.WriterStep.TheVariants as writer_step
 use Rattle.model_core.specs.declared.words.Word.TheVariants as word
 use Rattle.model_own.proofs.SetsOut.{out_at}
-use Rattle.model_own.specs.OwnWrites.{after_flusher, after_writer, begins_again, errand_took, errand_waits}
+use Rattle.model_own.specs.{after_flusher, after_writer, begins_again, errand_took, errand_waits, keeps_helped, loads_again, LogWork, own_checked, own_goes_on, own_step_of, OwnUser, sets_out, written, MayHelpAt}
 use Rattle.model_own.specs.ErrandFits.{ErrandFits}
-use Rattle.model_own.specs.OwnWrites.{keeps_helped, loads_again, LogWork, own_checked, own_goes_on}
-use Rattle.model_own.specs.ErrandFits.{MayHelpAt}
-use Rattle.model_own.specs.OwnWrites.{own_step_of, OwnUser, sets_out, written}
 use Rattle.model_own.specs.declared.errand.ErrandStep.{ErrandStep}
 use Rattle.model_own.specs.declared.errand.ErrandStep.TheVariants as errand_step
 use Rattle.redo_ownrule.proofs.OwnFree.{begins}

@@ -1,17 +1,13 @@
 -- Who gives the log part back after a failed call, in the hand of a user that writes for itself: it has just stored its
 -- code.
-use Rattle.std.proofs.Common.{Bool, List, [], ap, arith, cond, false, inl, inr, length, subst, suc, sym, true, zero, ℕ}
-use Rattle.std.proofs.Common.{⊎_elim, ◌+◌, ◌∙◌, ◌∷◌, ◌≡◌, ◌≤◌, ◌⊎◌}
+use Rattle.std.proofs.Common.{Bool, List, [], ap, arith, cond, false, inl, inr, length, subst, suc, sym, true, zero, ℕ, ⊎_elim, ◌+◌, ◌∙◌, ◌∷◌, ◌≡◌, ◌≤◌, ◌⊎◌}
 use Rattle.std.specs.Prelude.{nat_lt}
 use lib.ListN.{get_elem?}
 use mathlib.Core.Option as maybe
 use Rattle.model_core.proofs.FailedCalls.{has_stored, HasStored}
-use Rattle.model_core.specs.{checked_of, flusher_op, flusher_program, flusher_took, FlusherState, old_of, writer_op}
-use Rattle.model_core.specs.{writer_program, writer_took, WriterState}
-use Rattle.model_core.specs.Actors as model
-use Rattle.model_core.specs.Answers.{on_take}
-use Rattle.model_core.specs.Hands.{GivesFailed}
-use Rattle.model_core.specs.LogSide.{LogSide}
+use Rattle.model_core.specs.{checked_of, flusher_op, flusher_program, flusher_took, FlusherState, old_of, writer_op, writer_program, writer_took, WriterState, GivesFailed, LogSide}
+use Rattle.model_core.specs.States as model
+use Rattle.model_core.specs.ActorProgram.{on_take}
 use Rattle.model_core.specs.declared.ops.Answer.{Answer}
 use Rattle.model_core.specs.declared.ops.Answer.TheVariants as answer
 use Rattle.model_core.specs.declared.ops.Op.{Op}
@@ -22,10 +18,7 @@ use Rattle.model_core.specs.declared.steps.FlusherStep.TheVariants as flusher_st
 use Rattle.model_core.specs.declared.steps.WriterStep.{WriterStep}
 use Rattle.model_core.specs.declared.steps.WriterStep.TheVariants as writer_step
 use Rattle.model_core.specs.declared.words.Word.TheVariants as word
-use Rattle.model_own.specs.OwnTurn.{all_actors}
-use Rattle.model_own.specs.OwnWrites.{after_flusher, after_writer, errand_op, errand_took, flushes_at}
-use Rattle.model_own.specs.OwnWrites.{LogWork, own_checked, own_goes_on, own_next, OwnUser, taken_up, written}
-use Rattle.model_own.specs.ErrandFits.{has_work}
+use Rattle.model_own.specs.{all_actors, after_flusher, after_writer, errand_op, errand_took, flushes_at, LogWork, own_checked, own_goes_on, own_next, OwnUser, taken_up, written, has_work}
 use Rattle.model_own.specs.declared.errand.ErrandStep.{ErrandStep}
 use Rattle.model_own.specs.declared.errand.ErrandStep.TheVariants as errand_step
 use Rattle.model_ownrun.specs.OwnRunning.{IsWriterAtRest, WorkAt, WorkFits, WritesAt}

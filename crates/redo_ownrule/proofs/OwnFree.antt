@@ -1,11 +1,8 @@
 -- A user that writes for itself holds nothing while it checks for a failure, after each answer.
 use Rattle.std.proofs.Common.{Bool, cond, false, refl, subst, sym, true, ◌∙◌, ◌≡◌, None}
 use Rattle.model_core.proofs.Hands.{stays_free}
-use Rattle.model_core.specs.{checked_of, FlusherState, flusher_took, heard, old_of, user_program, user_took, UserState}
-use Rattle.model_core.specs.{writer_took, WriterState}
-use Rattle.model_core.specs.Actors as model
-use Rattle.model_core.specs.Hands.{IsFreeToCheck, user_hand}
-use Rattle.model_core.specs.Holding.{user_holds_tail}
+use Rattle.model_core.specs.{checked_of, FlusherState, flusher_took, heard, old_of, user_program, user_took, UserState, writer_took, WriterState, IsFreeToCheck, user_hand, user_holds_tail}
+use Rattle.model_core.specs.States as model
 use Rattle.model_core.specs.declared.words.LinkBuffer.{LinkBuffer}
 use Rattle.model_core.specs.declared.words.LinkBuffer.TheVariants as link_buffer
 use Rattle.model_core.specs.declared.ops.Answer.{Answer}
@@ -16,11 +13,8 @@ use Rattle.model_core.specs.declared.steps.UserStep.{UserStep}
 use Rattle.model_core.specs.declared.steps.UserStep.TheVariants as user_step
 use Rattle.model_core.specs.declared.steps.WriterStep.{WriterStep}
 use Rattle.model_core.specs.declared.steps.WriterStep.TheVariants as writer_step
-use Rattle.model_own.specs.OwnWrites.{after_flusher, after_writer, begins_again, errand_took, keeps_helped}
+use Rattle.model_own.specs.{after_flusher, after_writer, begins_again, errand_took, keeps_helped, loads_again, LogWork, own_checked, own_goes_on, own_stepped, OwnUser, sets_out, written, MayHelpAt}
 use Rattle.model_own.specs.ErrandFits.{ErrandFits}
-use Rattle.model_own.specs.OwnWrites.{loads_again, LogWork, own_checked, own_goes_on, own_stepped, OwnUser}
-use Rattle.model_own.specs.ErrandFits.{MayHelpAt}
-use Rattle.model_own.specs.OwnWrites.{sets_out, written}
 use Rattle.model_own.specs.declared.errand.ErrandStep.{ErrandStep}
 use Rattle.model_own.specs.declared.errand.ErrandStep.TheVariants as errand_step
 

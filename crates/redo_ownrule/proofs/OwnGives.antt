@@ -1,30 +1,26 @@
 -- A user that writes for itself gives back what it took, or calls the log part: both keep the rule.
-use Rattle.std.proofs.Common.{List, None, Some, [], ap, arith, false, get_or-set_other, get_or-set_same, inl, inr}
-use Rattle.std.proofs.Common.{length, length-set, refl, subst, suc, sym, true, ℕ, ◌+◌, ◌<◌, ◌∙◌, ◌∷◌, ◌≡◌, ◌≢◌, ◌⊎◌}
+use Rattle.std.proofs.Common.{List, None, Some, [], ap, arith, false, get_or-set_other, get_or-set_same, inl, inr, length, length-set, refl, subst, suc, sym, true, ℕ, ◌+◌, ◌<◌, ◌∙◌, ◌∷◌, ◌≡◌, ◌≢◌, ◌⊎◌}
 use Rattle.std.specs.Prelude.{slice_index, slice_set}
 use lib.ListN.{get_elem?}
 use mathlib.Core.Option as maybe
 use native.Mathlib.Decide.{ℕ_discrete}
-use Rattle.atomic_table.specs.Table.{Allows, Me, State}
+use Rattle.atomic_table.specs.Table.{Allows, Me, State, Act, carried_after, gives, put_back, rest, stepped, Valid}
 use Rattle.model_core.proofs.Lists.{set_else}
-use Rattle.model_core.specs.Actors as model
-use Rattle.model_core.specs.Hands.{hand}
+use Rattle.model_core.specs.States as model
+use Rattle.model_core.specs.{hand, took}
 use Rattle.model_core.specs.declared.ops.Answer.{Answer}
 use Rattle.model_core.specs.declared.ops.Answer.TheVariants as answer
 use Rattle.model_core.specs.declared.ops.Op.{Op}
 use Rattle.model_core.specs.declared.ops.Op.TheVariants as op
-use Rattle.model_own.specs.OwnWrites.{LogWork, own_goes_on, own_lends, own_next, OwnUser}
-use Rattle.model_own.specs.ErrandFits.{has_work}
-use Rattle.redo_disk.specs.{Call}
-use Rattle.redo_disk.specs.Seen.{Seen}
+use Rattle.model_own.specs.{LogWork, own_goes_on, own_lends, own_next, OwnUser, helps_at, has_work}
+use Rattle.redo_disk.specs.{Call, Seen}
 use Rattle.redo_drive.proofs.Played as played
-use Rattle.redo_drive.specs.Playing.{HasSamePages, IsPlayed}
+use Rattle.redo_drive.specs.{HasSamePages, IsPlayed, run_data_side}
 use Rattle.redo_drive.specs.declared.parts.Parts.{Parts}
 use Rattle.redo_ownrule.proofs.OwnOps as ops
 use Rattle.redo_ownrule.proofs.OwnTurns as turns
 use Rattle.redo_ownrule.proofs.OwnUserHands as hands
-use Rattle.redo_ownrule.specs.OwnPlays.{HasWork, IsOwn, own_view}
-use Rattle.redo_ownrule.specs.OwnPlays.{OwnStepped, with_work}
+use Rattle.redo_ownrule.specs.OwnPlays.{HasWork, IsOwn, own_view, OwnStepped, with_work, own_gave}
 use Rattle.redo_rule.proofs.Holders as holders
 use Rattle.redo_rule.proofs.Kept as kept
 use Rattle.redo_rule.specs.OwnSide.{Beside, desk_with}
@@ -36,18 +32,13 @@ use Rattle.redo_rule.specs.declared.law.Slot.{Slot}
 use Rattle.redo_rule.specs.declared.law.Slot.TheVariants as slot
 use Rattle.redo_rule.specs.declared.law.View.{View}
 use Rattle.atomic_table.proofs.Lists.{set_here}
-use Rattle.atomic_table.specs.Table.{Act, carried_after, gives, put_back, rest, stepped, Valid}
 use Rattle.model_core.proofs.Hands.{Handles}
-use Rattle.model_core.specs.{took}
-use Rattle.model_own.specs.OwnWrites.{helps_at}
 use Rattle.redo_rule.proofs.Filled.{handles_filled}
 use Rattle.redo_rule.specs.Plays.{no_filling}
 use Rattle.redo_drive.proofs.Played.{CallsLog}
-use Rattle.redo_drive.specs.Playing.{run_data_side}
 use Rattle.redo_ownrule.proofs.OwnAllowed as allowed
 use Rattle.redo_ownrule.proofs.OwnAllowed.{by_slot}
 use Rattle.redo_ownrule.proofs.OwnTurns.{many}
-use Rattle.redo_ownrule.specs.OwnPlays.{own_gave}
 
 module _ {L D : Type 0} (log_seen : L → Seen) (log_gives : L → Call → L → Type 0) (data_seen : D → Seen)
     (data_gives : D → Call → D → Type 0) (about : About L D) (slots id : ℕ) (me : Me (Slot L D) (View L D))

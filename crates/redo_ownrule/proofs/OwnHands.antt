@@ -2,10 +2,8 @@
 use Rattle.std.proofs.Common.{List, Some, [], ap, arith, refl, set, subst, suc, sym, true, zero, ℕ, ◌∷◌, ◌≡◌, ◌≢◌}
 use lib.ListN.{get_elem?}
 use mathlib.Core.Option as maybe
-use Rattle.model_core.specs.Actors as model
-use Rattle.model_core.specs.Hands.{checkpointer_hand, flusher_hand, hand, reader_hand, writer_hand}
-use Rattle.model_core.specs.Holding.{holds}
-use Rattle.model_core.specs.{checkpointer_holds, CheckpointerState, flusher_holds, reader_holds, writer_holds}
+use Rattle.model_core.specs.States as model
+use Rattle.model_core.specs.{checkpointer_hand, flusher_hand, hand, reader_hand, writer_hand, holds, checkpointer_holds, CheckpointerState, flusher_holds, reader_holds, writer_holds}
 use Rattle.model_core.specs.declared.steps.CheckpointerStep.{CheckpointerStep}
 use Rattle.model_core.specs.declared.steps.CheckpointerStep.TheVariants as checkpointer_step
 use Rattle.model_core.specs.declared.steps.FlusherStep.{FlusherStep}
@@ -14,8 +12,7 @@ use Rattle.model_core.specs.declared.steps.ReaderStep.{ReaderStep}
 use Rattle.model_core.specs.declared.steps.ReaderStep.TheVariants as reader_step
 use Rattle.model_core.specs.declared.steps.WriterStep.{WriterStep}
 use Rattle.model_core.specs.declared.steps.WriterStep.TheVariants as writer_step
-use Rattle.model_own.specs.OwnTurn.{all_actors}
-use Rattle.model_own.specs.OwnWrites.{LogWork, OwnUser}
+use Rattle.model_own.specs.{all_actors, LogWork, OwnUser}
 use Rattle.model_running.proofs.SlotHolders.{same_number}
 
 -- whoever holds the log part has its slot

@@ -7,34 +7,32 @@ use mathlib.Core.Option as maybe
 use Rattle.atomic_table.specs.Table.{State}
 use Rattle.model_core.proofs.Lists.{set_at, set_else}
 use Rattle.model_core.specs.{Entry, Given, UserState}
-use Rattle.model_core.specs.Actors as model
-use Rattle.model_core.specs.DataSide.{DataSide}
+use Rattle.model_core.specs.States as model
+use Rattle.model_core.specs.Sides.{DataSide, LogSide}
 use Rattle.model_core.specs.Hands.{GivesFailed, IsFreeToCheck}
-use Rattle.model_core.specs.LogSide.{LogSide}
 use Rattle.model_core.specs.declared.ops.Answer.{Answer}
-use Rattle.model_own.specs.OwnTurn.{all_actors, UserTurn}
-use Rattle.model_own.specs.OwnWrites.{LogWork, own_goes_on, own_lends, own_next, own_step_of, OwnUser}
+use Rattle.model_own.specs.OwnWrites.{all_actors, UserTurn, LogWork, own_goes_on, own_lends, own_next, own_step_of, OwnUser}
 use Rattle.model_own.specs.ErrandFits.{has_work}
 use Rattle.model_ownrun.proofs.Seats.{user_there}
 use Rattle.redo_disk.specs.{Call}
-use Rattle.redo_disk.specs.Seen.{Seen}
-use Rattle.redo_drive.specs.Playing.{HasSamePages, IsPlayed, run_data_side, run_log_side, RunOf}
-use Rattle.redo_drive.specs.Running.{groups_of, RunsWith}
+use Rattle.redo_disk.specs.Sight.{Seen}
+use Rattle.redo_drive.specs.Running.{HasSamePages, IsPlayed, run_data_side, run_log_side, RunOf, groups_of, RunsWith}
 use Rattle.redo_drive.specs.declared.parts.Parts.{Parts}
 use Rattle.redo_ownmachine.proofs.From as from
 use Rattle.redo_ownmachine.proofs.Turned as turned
 use Rattle.redo_ownmachine.specs.OwnSeats.{actors_of, OwnSeats}
-use Rattle.redo_ownmachine.specs.OwnAsking.{own_core_of}
-use Rattle.redo_ownmachine.specs.OwnStore.{OwnRunsWith}
+use Rattle.redo_ownmachine.specs.OwnStore.{own_core_of, OwnRunsWith}
 use Rattle.redo_ownmachine.specs.Serving.{IsUserServed}
 use Rattle.redo_logdev.specs.Part as log_part
 use Rattle.redo_ownrule.proofs.OwnFailing.{gives_where, WorkGives}
 use Rattle.redo_ownrule.proofs.OwnTold as causes
 use Rattle.redo_ownrule.proofs.OwnLoading.{flushed_up, log_longer}
+use Rattle.redo_ownrule.proofs.OwnReads.{reads_go_on}
+use Rattle.redo_rule.proofs.PagesRead.{has_read_on}
 use Rattle.redo_ownrule.specs.OwnPlays.{errand_of, own_behind}
 use Rattle.redo_rule.proofs.Hearing.{of_longer}
 use Rattle.redo_rule.proofs.Kept as kept
-use Rattle.redo_rule.specs.Handing.{HaveHandedOn, HaveLoaded}
+use Rattle.redo_rule.specs.Handing.{HaveHandedOn, HaveLoaded, HaveRead}
 use Rattle.redo_rule.specs.OwnSide.{Beside, HasItsWork, IsWorked, OwnSide, SitsAs}
 use Rattle.redo_rule.specs.Ruled.{Knows, Ruled}
 use Rattle.redo_rule.specs.declared.law.About.{About}
@@ -127,6 +125,7 @@ pub record RunsSo {L D : Type 0} (log_seen : L → Seen) (data_seen : D → Seen
   pub runs : RunsWith log_seen data_seen run archive parts actors
   pub hears : HaveHandedOn (run_log_side log_seen data_seen run) run.setup.base parts.log heard actors
       runs.running.log_ghost.log
+  pub reads : HaveRead run.setup parts.words.words heard runs.running.log_ghost.log
   pub loaded : HaveLoaded parts.words.words actors
 
 module _ {L D : Type 0} (log_seen : L → Seen) (log_gives : L → Call → L → Type 0) (data_seen : D → Seen)
@@ -156,7 +155,7 @@ module _ {L D : Type 0} (log_seen : L → Seen) (log_gives : L → Call → L �
   -- the same run, by the list of its users, of the log's work and of the others
   abbrev by_seats : RunsSo log_seen data_seen about.archive R.run R.parts R.heard (actors_of seats)
   by_seats = subst (RunsSo log_seen data_seen about.archive R.run R.parts R.heard) worked.are
-      (record { runs = R.runs; hears = R.hears; loaded = R.loaded })
+      (record { runs = R.runs; hears = R.hears; reads = R.reads; loaded = R.loaded })
 
   abbrev pub before : OwnRunsWith log_seen data_seen R.run about.archive R.parts seats
   before = record { runs = by_seats.runs; errands = worked.errands }
@@ -296,6 +295,10 @@ module _ {L D : Type 0} (log_seen : L → Seen) (log_gives : L → Call → L �
           own_is = ap (λ (z : Option OwnSide). is_some z) (sym own_is);
           own = record { others = worked.others; are = refl; errands = runs_behind.errands };
           hears = hears_behind;
+          reads = λ n. has_read_on R.run.setup R.parts.words.words new.words.words before.runs.running.log_ghost.log
+              runs_behind.runs.running.log_ghost.log
+              (reads_go_on log_seen data_seen R.run R.parts new side.users side.work left worked.others x.number o then
+              (own_step_of o side.work r) its_seat served before runs_behind) (R.heard n) (by_seats.reads n);
           loaded = loaded_behind;
           count = all_length now.users left worked.others
               ∙ ap (λ (n : ℕ). n + 2 + length worked.others) many

@@ -1,9 +1,8 @@
 -- The same player, later.
 use Rattle.std.proofs.Common.{Bool, List, [], ap, append-nil, cond, false, refl, subst, sym, true, ⊎_elim, ◌∙◌, ◌≡◌}
 use Rattle.model_core.proofs.Later.{checked_keeps, Keeps, later_refl, still, took_keeps}
-use Rattle.model_core.specs.{FlusherState, flusher_took, Given, heard, old_of, user_took, UserState, writer_took, WriterState}
-use Rattle.model_core.specs.Actors as model
-use Rattle.model_core.specs.Later.{IsSameActor}
+use Rattle.model_core.specs.{FlusherState, flusher_took, Given, heard, old_of, user_took, UserState, writer_took, WriterState, IsSameActor}
+use Rattle.model_core.specs.States as model
 use Rattle.model_core.specs.declared.ops.Answer.{Answer}
 use Rattle.model_core.specs.declared.ops.Answer.TheVariants as answer
 use Rattle.model_core.specs.declared.ops.Step.{Step}
@@ -11,12 +10,11 @@ use Rattle.model_core.specs.declared.steps.FlusherStep.{FlusherStep}
 use Rattle.model_core.specs.declared.steps.FlusherStep.TheVariants as flusher_step
 use Rattle.model_core.specs.declared.steps.WriterStep.{WriterStep}
 use Rattle.model_core.specs.declared.steps.WriterStep.TheVariants as writer_step
-use Rattle.model_own.specs.OwnWrites.{after_flusher, after_writer, errand_took, keeps_helped, loads_again, LogWork, own_checked, own_goes_on}
-use Rattle.model_own.specs.OwnWrites.{own_stepped, OwnUser, sets_out, written}
+use Rattle.model_own.specs.{after_flusher, after_writer, errand_took, keeps_helped, loads_again, LogWork, own_checked, own_goes_on, own_stepped, OwnUser, sets_out, written}
 use Rattle.model_own.specs.declared.errand.ErrandStep.{ErrandStep}
 use Rattle.model_own.specs.declared.errand.ErrandStep.TheVariants as errand_step
-use Rattle.redo_disk.specs.Seen.{Seen}
-use Rattle.redo_drive.specs.Views.{view_of}
+use Rattle.redo_disk.specs.{Seen}
+use Rattle.redo_drive.specs.{view_of}
 use Rattle.redo_drive.specs.declared.actor.Actor.{Actor}
 use Rattle.redo_drive.specs.declared.actor.Actor.TheVariants as own
 use Rattle.redo_ownrule.specs.OwnMine.{KeepsOwnSeat, OwnHasGone}
@@ -91,7 +89,7 @@ own_later log_seen data_seen o step x gone = ⊎_elim
     (later_refl (model.User o.user)))
     (λ played. let same = own_same o played.work played.answer in
     subst (λ (y : OwnUser). IsSameActor (model.User o.user) (model.User y.user)) (sym played.is)
-    ((own_goes_on o played.work played.answer).0.user, refl, same.0, same.1, same.2, same.3, same.4))
+    ((own_goes_on o played.work played.answer).0.user, refl, same.0, same.1, same.2, same.3, same.4, same.5))
     gone
 
 module _ {L D R : Type 0} (log_seen : L → Seen) (data_seen : D → Seen) {v : View L D} (p : Player R) (step : Step) where
@@ -119,4 +117,5 @@ same_seat {L} {D} {R} stands v w p o x is keeps =
       appended = [];
       blocks = ap (λ (h : Heard). h.blocks) keeps.heard ∙ sym (append-nil (heard_of v).blocks);
       got = tt;
+      reads = ap (λ (h : Heard). h.reads) keeps.heard;
     })

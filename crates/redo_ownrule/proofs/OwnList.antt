@@ -1,24 +1,20 @@
 -- What the taking and the giving of a flush list ask of the table and leave of a user's seat.
-use Rattle.std.proofs.Common.{List, None, Option, Some, [], ap, arith, false, refl, subst, suc, sym, ℕ}
-use Rattle.std.proofs.Common.{◌%◌, ◌+◌, ◌<◌, ◌==◌, ◌∙◌, ◌∷◌, ◌≡◌, ◌≢◌}
+use Rattle.std.proofs.Common.{List, None, Option, Some, [], ap, arith, false, refl, subst, suc, sym, ℕ, ◌%◌, ◌+◌, ◌<◌, ◌==◌, ◌∙◌, ◌∷◌, ◌≡◌, ◌≢◌}
 use prog.Atomic.{either}
 use Rattle.atomic_table.specs.Seated.{TableId}
 use Rattle.atomic_table.specs.Table.{Allows, Me, rest}
 use Rattle.atomic_table.specs.declared.shared.Seat.{Seat}
-use Rattle.model_core.specs.{next, OpWords, took, user_op}
-use Rattle.model_core.specs.Actors as model
-use Rattle.model_core.specs.Hands.{hand}
+use Rattle.model_core.specs.{next, OpWords, took, user_op, hand}
+use Rattle.model_core.specs.States as model
 use Rattle.model_core.specs.declared.ops.Answer.{Answer}
 use Rattle.model_core.specs.declared.ops.Answer.TheVariants as answer
 use Rattle.model_core.specs.declared.ops.Op.{Op}
 use Rattle.model_core.specs.declared.ops.Op.TheVariants as op
 use Rattle.model_core.proofs.Hands.{Handles}
-use Rattle.model_own.specs.OwnWrites.{helps_at, LogWork, own_goes_on, OwnUser}
-use Rattle.model_own.specs.ErrandFits.{has_work}
+use Rattle.model_own.specs.{helps_at, LogWork, own_goes_on, OwnUser, has_work}
 use Rattle.model_own.specs.declared.errand.ErrandStep.{ErrandStep}
 use Rattle.model_own.specs.declared.errand.ErrandStep.TheVariants as errand_step
-use Rattle.redo_disk.specs.{Call}
-use Rattle.redo_disk.specs.Seen.{Seen}
+use Rattle.redo_disk.specs.{Call, Seen}
 use Rattle.redo_flushlist.specs.{Listing}
 use Rattle.redo_ownrule.proofs.OwnAnswers as answers
 use Rattle.redo_ownrule.proofs.OwnGives.{own_give_list}
@@ -26,8 +22,7 @@ use Rattle.redo_ownrule.proofs.OwnListed.{own_take_add}
 use Rattle.redo_ownrule.proofs.OwnOps as ops
 use Rattle.redo_ownrule.proofs.OwnUserHands as hands
 use Rattle.redo_ownrule.specs.OwnMine.{IsAnswering, OwnMine}
-use Rattle.redo_ownrule.specs.OwnPlays.{own_gave, own_seized_list}
-use Rattle.redo_ownrule.specs.OwnPlays.{OwnStepped}
+use Rattle.redo_ownrule.specs.OwnPlays.{own_gave, own_seized_list, OwnStepped}
 use Rattle.redo_ownrule.specs.Playing.{OwnAsks}
 use Rattle.redo_ownuser.specs.OwnFits.{AloneFits, OwnAnswerFits}
 use Rattle.redo_rule.proofs.Filled.{handles_filled}

@@ -1,32 +1,27 @@
 -- A user that writes for itself takes a flush list as any user, and that keeps the rule.
-use Rattle.std.proofs.Common.{Bool, List, None, Option, Some, [], ap, arith, cond, eq-eqb, eqb, false, get_or-set_other, get_or-set_same, inl, inr}
-use Rattle.std.proofs.Common.{length-set, ne_eqb, refl, subst, suc, sym, true, zero, ℕ, ◌%◌, ◌+◌, ◌==◌, ◌∙◌, ◌∷◌, ◌≡◌, ◌≢◌}
-use Rattle.std.specs.Prelude.{slice_index, slice_set}
+use Rattle.std.proofs.Common.{Bool, List, None, Option, Some, [], ap, arith, cond, eq-eqb, eqb, false, get_or-set_other, get_or-set_same, inl, inr, length-set, ne_eqb, refl, subst, suc, sym, true, zero, ℕ, ◌%◌, ◌+◌, ◌==◌, ◌∙◌, ◌∷◌, ◌≡◌, ◌≢◌}
+use Rattle.std.specs.Prelude.{slice_index, slice_set, ◌++◌}
 use lib.ListN.{get_elem?}
 use mathlib.Core.Option as maybe
 use native.Mathlib.Decide.{ℕ_discrete}
 use prog.Atomic.{either}
 use Rattle.atomic_table.specs.Table.{Allows, keeps, Me, State, takes}
 use Rattle.model_core.proofs.Lists.{set_else}
-use Rattle.model_core.specs.Actors as model
-use Rattle.model_core.specs.Hands.{hand}
+use Rattle.model_core.specs.States as model
+use Rattle.model_core.specs.{hand, list_word, took, user_op}
 use Rattle.model_core.specs.declared.ops.Answer.{Answer}
 use Rattle.model_core.specs.declared.ops.Answer.TheVariants as answer
 use Rattle.model_core.specs.declared.ops.Op.{Op}
 use Rattle.model_core.specs.declared.ops.Op.TheVariants as op
-use Rattle.model_own.specs.OwnWrites.{LogWork, own_goes_on, own_lends, own_next, OwnUser}
-use Rattle.model_own.specs.ErrandFits.{has_work}
-use Rattle.redo_disk.specs.{Call}
-use Rattle.redo_disk.specs.Seen.{Seen}
+use Rattle.model_own.specs.{LogWork, own_goes_on, own_lends, own_next, OwnUser, helps_at, has_work}
+use Rattle.redo_disk.specs.{Call, Seen}
 use Rattle.redo_drive.proofs.Played as played
-use Rattle.redo_drive.specs.Lists.{listing_at, lists_of}
-use Rattle.redo_drive.specs.Playing.{HasSamePages, IsPlayed}
+use Rattle.redo_drive.specs.{listing_at, lists_of, added, no_list, HasSamePages, IsPlayed, run_data_side, run_log_side}
 use Rattle.redo_drive.specs.declared.parts.Parts.{Parts}
 use Rattle.redo_ownrule.proofs.OwnOps as ops
 use Rattle.redo_ownrule.proofs.OwnTurns as turns
 use Rattle.redo_ownrule.proofs.OwnUserHands as hands
-use Rattle.redo_ownrule.specs.OwnPlays.{HasWork, IsOwn, own_view, WorkInHand}
-use Rattle.redo_ownrule.specs.OwnPlays.{OwnStepped}
+use Rattle.redo_ownrule.specs.OwnPlays.{HasWork, IsOwn, own_view, WorkInHand, OwnStepped, own_seized_list}
 use Rattle.redo_rule.proofs.Holders as holders
 use Rattle.redo_rule.proofs.Words.{swapped}
 use Rattle.redo_rule.specs.OwnSide.{Beside, work_of}
@@ -36,21 +31,15 @@ use Rattle.redo_rule.specs.declared.law.Numbered.{Numbered}
 use Rattle.redo_rule.specs.declared.law.Slot.{Slot}
 use Rattle.redo_rule.specs.declared.law.Slot.TheVariants as slot
 use Rattle.redo_rule.specs.declared.law.View.{View}
-use Rattle.std.specs.Prelude.{◌++◌}
 use Rattle.model_core.proofs.Hands.{Handles}
-use Rattle.model_core.specs.{list_word, took, user_op}
-use Rattle.model_own.specs.OwnWrites.{helps_at}
 use Rattle.model_running.proofs.ListsReady.{list_ready}
-use Rattle.model_running.specs.ListReady.{ListReady}
+use Rattle.model_running.specs.Ready.{ListReady}
 use Rattle.redo_drive.proofs.Listings.{add_left}
-use Rattle.redo_drive.specs.Lists.{added, no_list}
-use Rattle.redo_drive.specs.Playing.{run_data_side, run_log_side}
 use Rattle.redo_flushlist.specs.{Listing}
 use Rattle.redo_flushlist.specs.declared.dirty.Dirty.{Dirty}
 use Rattle.redo_ownrule.proofs.OwnAllowed as allowed
 use Rattle.redo_ownrule.proofs.OwnAllowed.{by_slot}
 use Rattle.redo_ownrule.proofs.OwnTurns.{many}
-use Rattle.redo_ownrule.specs.OwnPlays.{own_seized_list}
 use Rattle.redo_rule.proofs.AllowedLists.{with_are, with_others}
 use Rattle.redo_rule.proofs.Filled.{handles_filled}
 use Rattle.redo_rule.specs.Plays.{list_behind, ListFits, no_filling, TakesList}

@@ -1,27 +1,23 @@
 -- A turn of a user that writes for itself takes FLUSHED no further back, and the log only goes on.
-use Rattle.std.proofs.Common.{Bool, List, ap, arith, cond, eqb, false, refl, set, slice_index, subst, sym, true, ℕ}
-use Rattle.std.proofs.Common.{◌∙◌, ◌≡◌, ◌≤◌}
+use Rattle.std.proofs.Common.{Bool, List, ap, arith, cond, eqb, false, refl, set, slice_index, subst, sym, true, ℕ, ◌∙◌, ◌≡◌, ◌≤◌}
 use lib.ListN.{get_elem?}
 use mathlib.Core.Option.{some}
-use Rattle.model_core.specs.Actors as model
-use Rattle.model_core.specs.DataSide.{DataSide}
-use Rattle.model_core.specs.LogSide.{LogSide}
+use Rattle.model_core.specs.States as model
+use Rattle.model_core.specs.{DataSide, LogSide, Entry, flat, flusher_op, layout_of, next, OpWords, shared_left, SharedWords, words_left, writer_op}
 use Rattle.model_core.specs.declared.words.Layout.{Layout}
 use Rattle.model_core.specs.declared.ops.Op.{Op}
 use Rattle.model_core.specs.declared.ops.Op.TheVariants as op
 use Rattle.model_core.specs.declared.ops.Step.{Step}
 use Rattle.model_core.specs.declared.words.Word.TheVariants as word
-use Rattle.model_core.specs.{Entry, flat, flusher_op, layout_of, next, OpWords, shared_left, SharedWords, words_left, writer_op}
-use Rattle.model_own.specs.OwnWrites.{errand_op, LogWork, OwnUser}
+use Rattle.model_own.specs.{errand_op, LogWork, OwnUser}
 use Rattle.model_own.specs.declared.errand.ErrandStep.{ErrandStep}
 use Rattle.model_own.specs.declared.errand.ErrandStep.TheVariants as errand_step
 use Rattle.model_ownrun.proofs.Seats.{flusher_seat, flusher_there, user_there, writer_seat, writer_there}
 use Rattle.model_running.proofs.ArchiverStays.{rises}
 use Rattle.model_running.proofs.FlatWords.{flat_left}
 use Rattle.model_running.proofs.Turns.{next_words}
-use Rattle.redo_disk.specs.Seen.{Seen}
-use Rattle.redo_drive.specs.Lists.{lists_of}
-use Rattle.redo_drive.specs.Playing.{run_data_side, run_log_side, RunOf}
+use Rattle.redo_disk.specs.{Seen}
+use Rattle.redo_drive.specs.{lists_of, run_data_side, run_log_side, RunOf}
 use Rattle.redo_drive.specs.declared.parts.Parts.{Parts}
 use Rattle.redo_ownmachine.proofs.Grows.{all_no_fewer, groups_sum, no_fewer}
 use Rattle.redo_ownmachine.proofs.Serves.{goes_on}

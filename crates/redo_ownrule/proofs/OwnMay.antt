@@ -2,12 +2,9 @@
 use Rattle.std.proofs.Common.{Bool, Option, Some, cond, false, is_some, refl, subst, sym, true, ℕ, ◌≡◌}
 use lib.ListN.{get_elem?}
 use mathlib.Core.Option as maybe
-use Rattle.model_core.specs.{answer_of, FlusherState, flusher_op, next, OpWords, user_op, writer_op, WriterState}
-use Rattle.model_core.specs.Actors as model
+use Rattle.model_core.specs.{answer_of, FlusherState, flusher_op, next, OpWords, user_op, writer_op, WriterState, AnswerFits, DataSide, LogSide}
+use Rattle.model_core.specs.States as model
 use Rattle.model_core.proofs.TurnWords.{advance_asks}
-use Rattle.model_core.specs.AnswerFits.{AnswerFits}
-use Rattle.model_core.specs.DataSide.{DataSide}
-use Rattle.model_core.specs.LogSide.{LogSide}
 use Rattle.model_core.specs.declared.words.Layout.{Layout}
 use Rattle.model_core.specs.declared.ops.Answer.{Answer}
 use Rattle.model_core.specs.declared.ops.Op.{Op}
@@ -18,18 +15,15 @@ use Rattle.model_core.specs.declared.steps.WriterStep.{WriterStep}
 use Rattle.model_core.specs.declared.steps.WriterStep.TheVariants as writer_step
 use Rattle.model_core.specs.declared.words.LinkBuffer.TheVariants as link_buffer
 use Rattle.model_core.specs.declared.words.Word.TheVariants as word
-use Rattle.model_own.specs.OwnWrites.{errand_op, LogWork, own_next, OwnUser}
-use Rattle.model_own.specs.ErrandFits.{has_work}
+use Rattle.model_own.specs.{errand_op, LogWork, own_next, OwnUser, has_work}
 use Rattle.model_own.specs.declared.errand.ErrandStep.{ErrandStep}
 use Rattle.model_own.specs.declared.errand.ErrandStep.TheVariants as errand_step
 use Rattle.model_ownrun.proofs.Errands.{in_hand}
 use Rattle.model_ownrun.proofs.OwnKeeps.{own_words}
 use Rattle.model_ownrun.proofs.Seats.{user_there}
 use Rattle.model_ownrun.specs.OwnRunning.{FlushesAt, WorkAt, WritesAt}
-use Rattle.redo_disk.specs.Seen.{Seen}
-use Rattle.redo_drive.specs.Lists.{lists_of}
-use Rattle.redo_drive.specs.Playing.{LogReady, run_data_side, run_log_side, RunOf}
-use Rattle.redo_drive.specs.Turning.{MayServe}
+use Rattle.redo_disk.specs.{Seen}
+use Rattle.redo_drive.specs.{lists_of, LogReady, run_data_side, run_log_side, RunOf, MayServe}
 use Rattle.redo_drive.specs.declared.parts.Parts.{Parts}
 use Rattle.redo_logdev.specs.Part as log
 use Rattle.model_running.proofs.Archiving.{others_append_not}

@@ -1,9 +1,9 @@
 -- Which Op a user that writes for itself asks for where.
 use Rattle.std.proofs.Common.{Bool, List, None, Option, ap, cond, false, refl, subst, sym, true, ℕ, ◌∙◌, ◌≡◌}
 use Rattle.model_core.proofs.TurnWords.{advance_asks, IsWordOp}
-use Rattle.model_core.specs.{FlusherState, flusher_op, flusher_took, next, old_of, user_op, UserState, writer_op, writer_took, WriterState}
-use Rattle.model_core.specs.Actors as model
-use Rattle.model_core.specs.Advancing.{advance_op}
+use Rattle.model_core.specs.{FlusherState, flusher_op, flusher_took, next, old_of, user_op, UserState, writer_op, writer_took, WriterState, OpWords, AnswerFits}
+use Rattle.model_core.specs.States as model
+use Rattle.model_core.specs.LogPrograms.{advance_op}
 use Rattle.model_core.specs.declared.words.Layout.{Layout}
 use Rattle.model_core.specs.declared.ops.Answer.{Answer}
 use Rattle.model_core.specs.declared.ops.Answer.TheVariants as answer
@@ -17,13 +17,10 @@ use Rattle.model_core.specs.declared.steps.WriterStep.{WriterStep}
 use Rattle.model_core.specs.declared.steps.WriterStep.TheVariants as writer_step
 use Rattle.model_core.specs.declared.words.LinkBuffer.TheVariants as link_buffer
 use Rattle.model_core.specs.declared.words.Word.TheVariants as word
-use Rattle.model_own.specs.OwnWrites.{after_flusher, after_writer, errand_op, errand_took, LogWork, own_checked}
-use Rattle.model_own.specs.ErrandFits.{ErrandFits, has_work}
-use Rattle.model_own.specs.OwnWrites.{own_goes_on, own_next, OwnUser}
+use Rattle.model_own.specs.{after_flusher, after_writer, errand_op, errand_took, LogWork, own_checked, own_goes_on, own_next, OwnUser, has_work}
+use Rattle.model_own.specs.ErrandFits.{ErrandFits}
 use Rattle.model_own.specs.declared.errand.ErrandStep.{ErrandStep}
 use Rattle.model_own.specs.declared.errand.ErrandStep.TheVariants as errand_step
-use Rattle.model_core.specs.{OpWords}
-use Rattle.model_core.specs.AnswerFits.{AnswerFits}
 use Rattle.redo_ownrule.specs.OwnPlays.{FlusherInHand, OwnMayGo, WorkInHand, WriterInHand}
 use Rattle.redo_ownuser.specs.OwnFits.{ErrandAnswerFits, WorkGoesOn}
 use Rattle.redo_rule.specs.declared.law.Slot.{Slot}

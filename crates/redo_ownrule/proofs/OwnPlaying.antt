@@ -3,16 +3,14 @@ use Rattle.std.proofs.Common.{List, Some, [], ap, subst, sym, true, ℕ, ◌∙�
 use Rattle.atomic_table.specs.Seated.{TableId}
 use Rattle.atomic_table.specs.Table.{rest}
 use Rattle.atomic_table.specs.declared.shared.Seat.{Seat}
-use Rattle.model_core.specs.{next}
-use Rattle.model_core.specs.Actors as model
-use Rattle.model_core.specs.AnswerFits.{AnswerFits}
+use Rattle.model_core.specs.{next, AnswerFits}
+use Rattle.model_core.specs.States as model
 use Rattle.model_core.specs.declared.ops.Answer.TheVariants as answer
 use Rattle.model_core.specs.declared.ops.Op.{Op}
 use Rattle.model_core.specs.declared.ops.Op.TheVariants as op
 use Rattle.model_core.specs.declared.ops.Step.{Step}
-use Rattle.model_own.specs.OwnWrites.{LogWork, own_next, OwnUser}
-use Rattle.model_own.specs.ErrandFits.{has_work}
-use Rattle.redo_disk.specs.Seen.{Seen}
+use Rattle.model_own.specs.{LogWork, own_next, OwnUser, has_work}
+use Rattle.redo_disk.specs.{Seen}
 use Rattle.redo_ownrule.proofs.OwnAnswers.{seat_with}
 use Rattle.redo_ownrule.proofs.OwnDevice.{has_w, only_work, the_slot}
 use Rattle.redo_ownrule.proofs.OwnMay.{own_rests}

@@ -1,35 +1,29 @@
 -- What each step of a user that writes for itself asks of the table and leaves of its seat.
-use Rattle.std.proofs.Common.{Bool, List, Option, Some, [], ap, arith, cond, eqb, false, refl, subst, sym, true, ℕ}
-use Rattle.std.proofs.Common.{◌%◌, ◌+◌, ◌<◌, ◌==◌, ◌^◌, ◌∙◌, ◌∷◌, ◌≡◌}
+use Rattle.std.proofs.Common.{Bool, List, Option, Some, [], ap, arith, cond, eqb, false, refl, subst, sym, true, ℕ, ◌%◌, ◌+◌, ◌<◌, ◌==◌, ◌^◌, ◌∙◌, ◌∷◌, ◌≡◌}
 use prog.Atomic.{either}
 use Rattle.atomic_table.specs.Seated.{TableId}
 use Rattle.atomic_table.specs.Table.{Allows, Me}
 use Rattle.atomic_table.specs.declared.shared.Seat.{Seat}
 use Rattle.model_core.proofs.TurnWords.{IsOffTurns, next_off}
 use Rattle.model_core.proofs.WordNumbers.{index_below}
-use Rattle.model_core.specs.{flusher_op, index, IsWord, new_flusher, new_writer, OnWord, OpWords, user_op, writer_op}
-use Rattle.model_core.specs.Actors as model
-use Rattle.model_core.specs.AnswerFits.{AnswerFits}
-use Rattle.model_core.specs.Hands.{hand}
+use Rattle.model_core.specs.{flusher_op, index, IsWord, new_flusher, new_writer, OnWord, OpWords, user_op, writer_op, AnswerFits, hand}
+use Rattle.model_core.specs.States as model
 use Rattle.model_core.specs.declared.ops.Answer.{Answer}
 use Rattle.model_core.specs.declared.ops.Answer.TheVariants as answer
 use Rattle.model_core.specs.declared.ops.Op.{Op}
 use Rattle.model_core.specs.declared.ops.Op.TheVariants as op
 use Rattle.model_core.specs.declared.words.Word.{Word}
 use Rattle.model_core.specs.declared.words.Word.TheVariants as word
-use Rattle.model_own.specs.OwnWrites.{errand_op, LogWork, own_goes_on, own_next, OwnUser}
-use Rattle.model_own.specs.ErrandFits.{has_work}
+use Rattle.model_own.specs.{errand_op, LogWork, own_goes_on, own_next, OwnUser, has_work}
 use Rattle.model_own.specs.declared.errand.ErrandStep.{ErrandStep}
 use Rattle.model_own.specs.declared.errand.ErrandStep.TheVariants as errand_step
-use Rattle.redo_disk.specs.{Call}
-use Rattle.redo_disk.specs.Seen.{Seen}
+use Rattle.redo_disk.specs.{Call, Seen}
 use Rattle.redo_ownrule.proofs.OwnAllowed.{held_aside, held_hand, own_word}
 use Rattle.redo_ownrule.proofs.OwnOps as ops
 use Rattle.redo_ownrule.proofs.OwnUserHands as hands
 use Rattle.redo_ownrule.proofs.OwnWords.{keeps_work, stays_aside}
 use Rattle.redo_ownrule.specs.OwnMine.{CarriesWork, HasStepped, IsAnswering, OwnMine}
-use Rattle.redo_ownrule.specs.OwnPlays.{HasWork, held_behind, own_saw}
-use Rattle.redo_ownrule.specs.OwnPlays.{OwnMayGo, OwnStepped, with_work}
+use Rattle.redo_ownrule.specs.OwnPlays.{HasWork, held_behind, own_saw, OwnMayGo, OwnStepped, with_work}
 use Rattle.redo_ownrule.specs.Playing.{OwnAsks}
 use Rattle.redo_ownuser.specs.OwnFits.{AloneErrandFits, AloneFits, ErrandAnswerFits, IsNotTaken, OwnAnswerFits, WorkGoesOn}
 use Rattle.redo_rule.proofs.Kept.{same_desk, same_slot}

@@ -1,6 +1,5 @@
 -- The taking of DEVICE by a user that writes for itself, with the log's work, keeps the rule.
-use Rattle.std.proofs.Common.{Bool, List, None, Option, Some, [], ap, arith, cond, eq-eqb, eqb, false, get_or-set_other, get_or-set_same, inl, inr, is_some}
-use Rattle.std.proofs.Common.{length-set, ne_eqb, refl, subst, suc, sym, true, ℕ, ◌+◌, ◌<◌, ◌==◌, ◌∙◌, ◌∷◌, ◌≡◌, ◌≢◌, ◌⊎◌}
+use Rattle.std.proofs.Common.{Bool, List, None, Option, Some, [], ap, arith, cond, eq-eqb, eqb, false, get_or-set_other, get_or-set_same, inl, inr, is_some, length-set, ne_eqb, refl, subst, suc, sym, true, ℕ, ◌+◌, ◌<◌, ◌==◌, ◌∙◌, ◌∷◌, ◌≡◌, ◌≢◌, ◌⊎◌}
 use Rattle.std.specs.Prelude.{slice_index, slice_set}
 use lib.ListN.{get_elem?}
 use mathlib.Core.Option as maybe
@@ -8,27 +7,24 @@ use native.Mathlib.Decide.{ℕ_discrete}
 use prog.Atomic.{either}
 use Rattle.atomic_table.specs.Table.{Allows, keeps, Me, State, takes}
 use Rattle.model_core.proofs.Lists.{set_else}
-use Rattle.model_core.specs.{old_of}
-use Rattle.model_core.specs.Actors as model
-use Rattle.model_core.specs.Hands.{hand}
+use Rattle.model_core.specs.{old_of, hand}
+use Rattle.model_core.specs.States as model
 use Rattle.model_core.specs.declared.ops.Answer.{Answer}
 use Rattle.model_core.specs.declared.ops.Answer.TheVariants as answer
 use Rattle.model_core.specs.declared.ops.Op.{Op}
 use Rattle.model_core.specs.declared.ops.Op.TheVariants as op
-use Rattle.model_own.specs.OwnWrites.{LogWork, own_checked, own_goes_on, own_lends, own_next, OwnUser, errand_took}
-use Rattle.model_own.specs.ErrandFits.{ErrandFits, has_work}
+use Rattle.model_own.specs.{LogWork, own_checked, own_goes_on, own_lends, own_next, OwnUser, errand_took, waiting, has_work}
+use Rattle.model_own.specs.ErrandFits.{ErrandFits}
 use Rattle.model_own.specs.declared.errand.ErrandStep.{ErrandStep}
 use Rattle.model_own.specs.declared.errand.ErrandStep.TheVariants as errand_step
-use Rattle.redo_disk.specs.{Call}
-use Rattle.redo_disk.specs.Seen.{Seen}
+use Rattle.redo_disk.specs.{Call, Seen}
 use Rattle.redo_drive.proofs.Played as played
-use Rattle.redo_drive.specs.Playing.{HasSamePages, IsPlayed}
+use Rattle.redo_drive.specs.{HasSamePages, IsPlayed}
 use Rattle.redo_drive.specs.declared.parts.Parts.{Parts}
 use Rattle.redo_ownrule.proofs.OwnOps as ops
 use Rattle.redo_ownrule.proofs.OwnTurns as turns
 use Rattle.redo_ownrule.proofs.OwnUserHands as hands
-use Rattle.redo_ownrule.specs.OwnPlays.{HasWork, IsOwn, own_seized, own_view, WorkInHand}
-use Rattle.redo_ownrule.specs.OwnPlays.{OwnStepped, with_work}
+use Rattle.redo_ownrule.specs.OwnPlays.{HasWork, IsOwn, own_seized, own_view, WorkInHand, OwnStepped, with_work}
 use Rattle.redo_rule.proofs.Kept as kept
 use Rattle.redo_rule.proofs.Words.{swapped}
 use Rattle.redo_rule.specs.OwnSide.{Beside, desk_with}
@@ -43,7 +39,6 @@ use Rattle.redo_rule.specs.declared.law.View.{View}
 use Rattle.redo_ownrule.proofs.OwnAllowed as allowed
 use Rattle.redo_ownrule.proofs.OwnAllowed.{by_slot}
 use Rattle.redo_ownrule.proofs.OwnTurns.{many}
-use Rattle.model_own.specs.OwnWrites.{waiting}
 
 -- what DEVICE's answer leads to: it has the work then, as it is taken up
 pub took : (o : OwnUser) (k : LogWork) (b : Bool) → o.user.checks ≡ false → o.errand ≡ errand_step.TakeDevice

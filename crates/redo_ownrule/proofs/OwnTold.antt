@@ -2,19 +2,16 @@
 use Rattle.std.proofs.Common.{Bool, false, refl, subst, sym, true, ℕ, ⊎_elim, ◌≡◌}
 use lib.ListN.{get_elem?}
 use mathlib.Core.Option.{some}
-use Rattle.model_core.specs.{LogServed}
-use Rattle.model_core.specs.Actors as model
-use Rattle.model_core.specs.Hands.{GivesFailed}
-use Rattle.model_core.specs.LogSide.{LogSide}
+use Rattle.model_core.specs.{LogServed, GivesFailed, LogSide}
+use Rattle.model_core.specs.States as model
 use Rattle.model_core.specs.declared.ops.Answer.{Answer}
 use Rattle.model_core.specs.declared.ops.Op.{Op}
 use Rattle.model_logcore.proofs.Failures.{stored_cause}
-use Rattle.model_own.specs.OwnWrites.{own_goes_on, own_lends, own_next, OwnUser}
-use Rattle.model_own.specs.ErrandFits.{has_work}
+use Rattle.model_own.specs.{own_goes_on, own_lends, own_next, OwnUser, has_work}
 use Rattle.model_ownrun.proofs.Errands.{in_hand}
 use Rattle.model_ownrun.proofs.Seats.{flusher_seat, flusher_there, writer_seat, writer_there}
-use Rattle.redo_disk.specs.Seen.{Seen}
-use Rattle.redo_drive.specs.Playing.{run_log_side, RunOf}
+use Rattle.redo_disk.specs.{Seen}
+use Rattle.redo_drive.specs.{run_log_side, RunOf}
 use Rattle.redo_drive.specs.declared.parts.Parts.{Parts}
 use Rattle.redo_logdev.specs.Part as log
 use Rattle.redo_ownmachine.specs.OwnSeats.{actors_of, OwnSeats}

@@ -1,7 +1,6 @@
 -- A turn of a user that writes for itself, on the shared table: what it knows, what keeps the rule, and what the turn tells
 -- its seat.
-use Rattle.std.proofs.Common.{Bool, List, None, Option, Some, ap, arith, false, length, length-append, refl, set, subst, suc, sym, true, zero, ℕ}
-use Rattle.std.proofs.Common.{⊎_elim, ◌++◌, ◌+◌, ◌<◌, ◌∙◌, ◌∷◌, ◌≡◌, ◌≢◌, ◌≤◌, ◌⊎◌}
+use Rattle.std.proofs.Common.{Bool, List, None, Option, Some, ap, arith, false, length, length-append, refl, set, subst, suc, sym, true, zero, ℕ, ⊎_elim, ◌++◌, ◌+◌, ◌<◌, ◌∙◌, ◌∷◌, ◌≡◌, ◌≢◌, ◌≤◌, ◌⊎◌}
 use Rattle.std.specs.Prelude.{slice_index, slice_set, []}
 use lib.ListN.{get_elem?}
 use mathlib.Core.Option as maybe
@@ -9,19 +8,13 @@ use native.Mathlib.Decide.{ℕ_discrete}
 use Rattle.atomic_table.specs.Table.{State}
 use Rattle.model_core.proofs.FailedCalls.{gives_hand}
 use Rattle.model_core.proofs.Lists.{set_at}
-use Rattle.model_core.specs.{flat, flat_page_words}
-use Rattle.model_core.specs.Actors as model
-use Rattle.model_core.specs.Hands.{GivesFailed, hand}
-use Rattle.model_core.specs.LogSide.{LogSide}
+use Rattle.model_core.specs.{flat, flat_page_words, GivesFailed, hand, LogSide}
+use Rattle.model_core.specs.States as model
 use Rattle.model_core.specs.declared.ops.Answer.{Answer}
-use Rattle.model_own.specs.OwnWrites.{LogWork, own_goes_on, own_lends, own_next, own_step_of, OwnUser}
-use Rattle.model_own.specs.ErrandFits.{has_work}
+use Rattle.model_own.specs.{LogWork, own_goes_on, own_lends, own_next, own_step_of, OwnUser, has_work}
 use Rattle.model_ownrun.proofs.Seats.{user_there}
-use Rattle.redo_disk.specs.{Call}
-use Rattle.redo_disk.specs.Seen.{Seen}
-use Rattle.redo_drive.specs.Calls.{CallsOn}
-use Rattle.redo_drive.specs.Lists.{AreLists}
-use Rattle.redo_drive.specs.Playing.{HasSamePages, IsPlayed, run_log_side}
+use Rattle.redo_disk.specs.{Call, Seen}
+use Rattle.redo_drive.specs.{CallsOn, AreLists, HasSamePages, IsPlayed, run_log_side}
 use Rattle.redo_drive.specs.declared.parts.Parts.{Parts}
 use Rattle.redo_logdev.specs.Part as log
 use Rattle.redo_ownmachine.specs.OwnSeats.{actors_of, OwnSeats}

@@ -1,10 +1,8 @@
 -- Which list a user that writes for itself holds after an answer.
 use Rattle.std.proofs.Common.{Bool, None, Option, ap, cond, false, refl, subst, sym, true, ℕ, ◌∙◌, ◌≡◌}
 use Rattle.model_core.proofs.TurnWords.{advance_asks}
-use Rattle.model_core.specs.{checked_of, FlusherState, flusher_took, heard, next, old_of, OnWord, took, user_op, user_program, user_took}
-use Rattle.model_core.specs.{user_waits, UserState, writer_took, WriterState}
-use Rattle.model_core.specs.Actors as model
-use Rattle.model_core.specs.Hands.{hand, IsFreeToCheck, user_hand}
+use Rattle.model_core.specs.{checked_of, FlusherState, flusher_took, heard, next, old_of, OnWord, took, user_op, user_program, user_took, user_waits, UserState, writer_took, WriterState, hand, IsFreeToCheck, user_hand}
+use Rattle.model_core.specs.States as model
 use Rattle.model_core.specs.ActorProgram.{opposite}
 use Rattle.model_core.specs.declared.ops.Answer.{Answer}
 use Rattle.model_core.specs.declared.ops.Answer.TheVariants as answer
@@ -19,11 +17,8 @@ use Rattle.model_core.specs.declared.steps.WriterStep.TheVariants as writer_step
 use Rattle.model_core.specs.declared.words.LinkBuffer.TheVariants as link_buffer
 use Rattle.model_core.specs.declared.words.Word.TheVariants as word
 use Rattle.model_own.proofs.SetsOut.{out_at}
-use Rattle.model_own.specs.OwnWrites.{after_flusher, after_writer, begins_again, errand_op, errand_took, helps_at}
-use Rattle.model_own.specs.ErrandFits.{ErrandFits, has_work}
-use Rattle.model_own.specs.OwnWrites.{keeps_helped, loads_again, LogWork, own_checked, own_goes_on, own_next, own_stepped}
-use Rattle.model_own.specs.ErrandFits.{MayHelpAt}
-use Rattle.model_own.specs.OwnWrites.{OwnUser, sets_out, written}
+use Rattle.model_own.specs.{after_flusher, after_writer, begins_again, errand_op, errand_took, helps_at, keeps_helped, loads_again, LogWork, own_checked, own_goes_on, own_next, own_stepped, OwnUser, sets_out, written, has_work, MayHelpAt}
+use Rattle.model_own.specs.ErrandFits.{ErrandFits}
 use Rattle.model_own.specs.declared.errand.ErrandStep.{ErrandStep}
 use Rattle.model_own.specs.declared.errand.ErrandStep.TheVariants as errand_step
 use Rattle.redo_ownrule.proofs.OwnFree.{begins, no_slot}

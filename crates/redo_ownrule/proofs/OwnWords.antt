@@ -1,12 +1,8 @@
 -- An Op on a word: a user that has the log's work in hand has it after that, and one that hasn't leaves the work as it is.
 use Rattle.std.proofs.Common.{Bool, Some, cond, false, length, refl, true, ℕ, ◌*◌, ◌++◌, ◌+◌, ◌-◌, ◌==◌, ◌≡◌}
-use Rattle.model_core.specs.{FlusherState, flusher_op, flusher_took, OnWord, UserState, writer_op, writer_took, WriterState}
-use Rattle.model_core.specs.Advancing.{advance_next, ends}
-use Rattle.model_core.specs.Hands.{user_hand}
-use Rattle.model_core.specs.Lanes.{lane_of, left_in_word}
-use Rattle.model_core.specs.Packing.{lanes}
-use Rattle.model_core.specs.Lsn.{lsn}
-use Rattle.model_core.specs.WriterProgram.{finds_no_more, has_log_space, has_whole_word, read_place, stands_outside, word_end}
+use Rattle.model_core.specs.{FlusherState, flusher_op, flusher_took, OnWord, UserState, writer_op, writer_took, WriterState, user_hand}
+use Rattle.model_core.specs.LogPrograms.{advance_next, ends, finds_no_more, has_log_space, has_whole_word, read_place, stands_outside, word_end}
+use Rattle.model_core.specs.Lanes.{lane_of, left_in_word, lanes, lsn}
 use Rattle.model_core.specs.declared.ops.Answer.TheVariants as answer
 use Rattle.model_core.specs.declared.ops.Op.TheVariants as op
 use Rattle.model_core.specs.declared.steps.AdvanceStep.TheVariants as advance_step
@@ -18,9 +14,7 @@ use Rattle.model_core.specs.declared.steps.WriterStep.{WriterStep}
 use Rattle.model_core.specs.declared.steps.WriterStep.TheVariants as writer_step
 use Rattle.model_core.specs.declared.words.Word.TheVariants as word
 use Rattle.model_log.specs.declared.layout.TheConstants.{BLOCK_DATA}
-use Rattle.model_own.specs.OwnWrites.{after_flusher, after_writer, errand_op, errand_took}
-use Rattle.model_own.specs.ErrandFits.{has_work}
-use Rattle.model_own.specs.OwnWrites.{LogWork, own_checked, own_goes_on, own_next, own_stepped, OwnUser, sets_out, written}
+use Rattle.model_own.specs.{after_flusher, after_writer, errand_op, errand_took, LogWork, own_checked, own_goes_on, own_next, own_stepped, OwnUser, sets_out, written, has_work}
 use Rattle.model_own.specs.declared.errand.ErrandStep.{ErrandStep}
 use Rattle.model_own.specs.declared.errand.ErrandStep.TheVariants as errand_step
 

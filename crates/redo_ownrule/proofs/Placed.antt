@@ -1,8 +1,7 @@
 -- The actors that a run leaves, put into their places one by one.
-use Rattle.std.proofs.Common.{List, None, Option, [], ap, append_assoc, arith, length, length-append, map, refl, sym, ℕ}
-use Rattle.std.proofs.Common.{◌+◌, ◌++◌, ◌∙◌, ◌∷◌, ◌≡◌, ◌≤◌}
+use Rattle.std.proofs.Common.{List, None, Option, [], ap, append_assoc, arith, length, length-append, map, refl, sym, ℕ, ◌+◌, ◌++◌, ◌∙◌, ◌∷◌, ◌≡◌, ◌≤◌}
 use Rattle.std.proofs.lemmas.List.{length-map}
-use Rattle.model_own.specs.OwnWrites.{LogWork}
+use Rattle.model_own.specs.{LogWork}
 use Rattle.redo_drive.specs.declared.actor.Actor.{Actor}
 use Rattle.redo_drive.specs.declared.actor.Actor.TheVariants as actor
 use Rattle.redo_ownrule.specs.Players.{actor_of, crew, workers_of}

@@ -1,6 +1,5 @@
 -- A player more gets its seat, and the last seat is taken in.
-use Rattle.std.proofs.Common.{Bool, List, None, Option, Some, [], ap, arith, cond, drop, false, inl, inr, length, length-append, map, refl, subst, suc, sym, true, zero, ℕ}
-use Rattle.std.proofs.Common.{⊎_elim, ◌++◌, ◌+◌, ◌<◌, ◌∙◌, ◌∷◌, ◌≡◌, ◌≤◌, ◌⊎◌, get_or}
+use Rattle.std.proofs.Common.{Bool, List, None, Option, Some, [], ap, arith, cond, drop, false, inl, inr, length, length-append, map, refl, subst, suc, sym, true, zero, ℕ, ⊎_elim, ◌++◌, ◌+◌, ◌<◌, ◌∙◌, ◌∷◌, ◌≡◌, ◌≤◌, ◌⊎◌, get_or}
 use lib.ListN.{get_elem?}
 use mathlib.Core.Option as maybe
 use native.Mathlib.Decide.{ℕ_discrete}
@@ -8,14 +7,11 @@ use Rattle.atomic_table.proofs.Lists.{at_last, at_longer, drop_at}
 use Rattle.atomic_table.specs.Seated.{TableId}
 use Rattle.atomic_table.specs.Table.{Allows, Me}
 use Rattle.atomic_table.specs.declared.shared.Seat.{Seat}
-use Rattle.model_core.specs.{word_count}
-use Rattle.model_core.specs.Actors as model
-use Rattle.model_core.specs.Hands.{HoldsNothing}
-use Rattle.model_own.specs.OwnWrites.{OwnUser}
-use Rattle.model_own.specs.ErrandFits.{has_work}
-use Rattle.redo_disk.specs.{Call}
-use Rattle.redo_disk.specs.Seen.{Seen}
-use Rattle.redo_drive.specs.Views.{view_of, views_of}
+use Rattle.model_core.specs.{word_count, HoldsNothing}
+use Rattle.model_core.specs.States as model
+use Rattle.model_own.specs.{OwnUser, has_work}
+use Rattle.redo_disk.specs.{Call, Seen}
+use Rattle.redo_drive.specs.{view_of, views_of}
 use Rattle.redo_ownrule.proofs.OwnAllowed.{own_look}
 use Rattle.redo_ownrule.specs.Gathering.{AreHandedOut, HasPlayer, IsHeadOf}
 use Rattle.redo_ownrule.specs.OwnMine.{CarriesWork, OwnMine}
@@ -185,8 +181,8 @@ module _ {L D R : Type 0} where
   seat_bare table seat (player.Own o) S rest = subst (λ (h : Option ℕ). Carries h seat.me) rest.0.no_slot
       (subst (λ (b : Bool). CarriesWork b (model.User o.user) seat.me) rest.1 S.mine.carries)
 
-  module _ (table : TableId) (number : ℕ → ℕ) (inj : (i j : ℕ) → number i ≡ number j → i ≡ j) (heard : ℕ → Heard)
-      (players : List (Player R)) (first : Seat (Slot L D) (View L D)) (seats : List (Seat (Slot L D) (View L D)))
+  module _ (table : TableId) (number : ℕ → ℕ) (heard : ℕ → Heard) (players : List (Player R))
+      (first : Seat (Slot L D) (View L D)) (seats : List (Seat (Slot L D) (View L D)))
       (A : AreHandedOut table number heard players first seats) where
     module _ (p : Player R) (p_at : get_elem? players (length seats) ≡ maybe.some p) where
       abbrev n : ℕ
@@ -198,8 +194,9 @@ module _ {L D R : Type 0} where
       are : first.me.0.seats ≡ numbered_as (number n) (heard n) p ∷ others
       are = A.others ∙ ap (seated number heard n) (drop_at players n p p_at)
 
-      pub head : IsHeadOf first.me.0 p
-      head = record {
+      -- the numbers of players that are to get seats are apart
+      pub head : ((i j : ℕ) → number i ≡ number j → i ≡ j) → IsHeadOf first.me.0 p
+      head inj = record {
         number = number n;
         heard = heard n;
         others = others;

@@ -1,14 +1,12 @@
 -- Players as a run begins: who sits in the first seat, and where each is among the actors of the run.
-use Rattle.std.proofs.Common.{Bool, List, None, Option, Some, [], ap, arith, cond, false, is_some, length, map, refl}
-use Rattle.std.proofs.Common.{subst, suc, sym, true, zero, ℕ, ◌+◌, ◌∙◌, ◌∷◌, ◌≡◌, ◌≤◌}
+use Rattle.std.proofs.Common.{Bool, List, None, Option, Some, [], ap, arith, cond, false, is_some, length, map, refl, subst, suc, sym, true, zero, ℕ, ◌+◌, ◌∙◌, ◌∷◌, ◌≡◌, ◌≤◌}
 use lib.ListN.{get_elem?}
 use mathlib.Core.Option as maybe
-use Rattle.model_core.specs.Actors as model
-use Rattle.model_own.specs.OwnWrites.{LogWork, OwnUser}
-use Rattle.model_own.specs.ErrandFits.{has_work}
+use Rattle.model_core.specs.States as model
+use Rattle.model_own.specs.{LogWork, OwnUser, has_work}
 use Rattle.model_own.specs.declared.errand.ErrandStep.{ErrandStep}
 use Rattle.model_own.specs.declared.errand.ErrandStep.TheVariants as errand_step
-use Rattle.redo_drive.specs.Views.{view_of, views_of}
+use Rattle.redo_drive.specs.{view_of, views_of}
 use Rattle.redo_drive.specs.declared.actor.Actor.{Actor}
 use Rattle.redo_drive.specs.declared.actor.Actor.TheVariants as actor
 use Rattle.redo_ownmachine.specs.OwnCrew.{IsOther}
@@ -16,8 +14,7 @@ use Rattle.redo_ownmachine.specs.OwnCrew as own_crew
 use Rattle.redo_ownmachine.specs.OwnSeats.{AreAtHome}
 use Rattle.redo_ownrule.proofs.Crews.{own_users, plain_users}
 use Rattle.redo_ownrule.proofs.Placed.{alone}
-use Rattle.redo_ownrule.specs.Players.{actor_of, AreInOrder, ArePlain, crew, numbered_as, place, place_behind, seated}
-use Rattle.redo_ownrule.specs.Players.{UsersFirst}
+use Rattle.redo_ownrule.specs.Players.{actor_of, AreInOrder, ArePlain, crew, numbered_as, place, place_behind, seated, UsersFirst}
 use Rattle.redo_ownrule.specs.Staffing.{HaveOthers, StandAtHome}
 use Rattle.redo_ownrule.specs.declared.player.Player.{Player}
 use Rattle.redo_ownrule.specs.declared.player.Player.TheVariants as player

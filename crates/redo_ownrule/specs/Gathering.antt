@@ -4,7 +4,7 @@ use lib.ListN.{get_elem?}
 use mathlib.Core.Option.{some}
 use Rattle.atomic_table.specs.Seated.{TableId}
 use Rattle.atomic_table.specs.declared.shared.Seat.{Seat}
-use Rattle.redo_drive.specs.Views.{view_of}
+use Rattle.redo_drive.specs.{view_of}
 use Rattle.redo_ownrule.specs.OwnMine.{OwnMine}
 use Rattle.redo_ownrule.specs.Players.{numbered_as, seated}
 use Rattle.redo_ownrule.specs.Playing.{IsPlayerSeat}

@@ -1,5 +1,6 @@
 pub mod Gathering
 pub mod Leaving
+pub mod LiveClosing
 pub mod LiveLeaving
 pub mod LiveSharing
 pub mod OwnCauses

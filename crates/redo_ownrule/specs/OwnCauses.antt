@@ -1,16 +1,15 @@
 -- Why an answer of `play` came, of a user that writes for itself.
 use Rattle.std.specs.Prelude.{Option, false, true, ℕ, ◌↔◌, ◌≡◌, ◌⊎◌}
-use Rattle.model_core.specs.Actors as model
+use Rattle.model_core.specs.States as model
 use Rattle.model_core.specs.declared.ops.Answer.{Answer}
 use Rattle.model_core.specs.declared.ops.Op.TheVariants as op
 use Rattle.model_core.specs.declared.ops.Step.{Step}
 use Rattle.model_core.specs.declared.ops.Step.TheVariants as step
 use Rattle.model_core.specs.declared.words.Word.TheVariants as word
-use Rattle.model_own.specs.OwnWrites.{errand_waits, LogWork, own_next, OwnUser}
-use Rattle.redo_disk.specs.Seen.{Seen}
+use Rattle.model_own.specs.{errand_waits, LogWork, own_next, OwnUser}
+use Rattle.redo_disk.specs.{Seen}
 use Rattle.redo_disk.specs.declared.error.DevError.{DevError}
-use Rattle.redo_drive.specs.Turning.{code_in}
-use Rattle.redo_drive.specs.Views.{view_of}
+use Rattle.redo_drive.specs.{code_in, view_of}
 use Rattle.redo_ownmachine.specs.OwnSeats.{actors_of}
 use Rattle.redo_ownrule.specs.OwnPlays.{ErrandGivesFailed, OwnShown}
 use Rattle.redo_ownrule.specs.declared.player.Player.{Player}

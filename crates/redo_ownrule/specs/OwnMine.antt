@@ -3,16 +3,15 @@ use Rattle.std.specs.Prelude.{Bool, List, Option, Some, [], cond, false, true, â
 use Rattle.atomic_table.specs.Seated.{TableId}
 use Rattle.atomic_table.specs.Table.{Me}
 use Rattle.atomic_table.specs.declared.shared.Seat.{Seat}
-use Rattle.model_core.specs.{next, step_of, word_count}
-use Rattle.model_core.specs.Actors as model
-use Rattle.model_core.specs.Hands.{hand, IsFreeToCheck}
+use Rattle.model_core.specs.{next, step_of, word_count, hand, IsFreeToCheck}
+use Rattle.model_core.specs.States as model
 use Rattle.model_core.specs.declared.ops.Answer.{Answer}
 use Rattle.model_core.specs.declared.ops.Answer.TheVariants as answer
 use Rattle.model_core.specs.declared.ops.Op.TheVariants as op
 use Rattle.model_core.specs.declared.ops.Step.{Step}
-use Rattle.model_own.specs.OwnWrites.{LogWork, own_goes_on, own_step_of, OwnUser}
-use Rattle.model_own.specs.ErrandFits.{ErrandFits, has_work}
-use Rattle.redo_disk.specs.Seen.{Seen}
+use Rattle.model_own.specs.{LogWork, own_goes_on, own_step_of, OwnUser, has_work}
+use Rattle.model_own.specs.ErrandFits.{ErrandFits}
+use Rattle.redo_disk.specs.{Seen}
 use Rattle.redo_ownrule.specs.OwnPlays.{HasWork, IsOwn, OwnMayGo, OwnShown, OwnStepped, with_work}
 use Rattle.redo_ownuser.specs.OwnFits.{AloneFits}
 use Rattle.redo_rule.specs.Cutting.{IsHome}

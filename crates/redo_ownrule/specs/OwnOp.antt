@@ -3,8 +3,8 @@ use Rattle.atomic_table.specs.Seated.{TableId}
 use Rattle.atomic_table.specs.declared.shared.Seat.{Seat}
 use Rattle.model_core.specs.declared.ops.Op.{Op}
 use Rattle.model_core.specs.declared.ops.Step.{Step}
-use Rattle.model_own.specs.OwnWrites.{OwnUser}
-use Rattle.redo_disk.specs.Seen.{Seen}
+use Rattle.model_own.specs.{OwnUser}
+use Rattle.redo_disk.specs.{Seen}
 use Rattle.redo_ownrule.specs.OwnMine.{IsOwnSeat, KeepsOwnSeat, OwnHasPlayed}
 use Rattle.redo_ownrule.specs.Playing.{OwnAsks}
 use Rattle.redo_rule.specs.declared.law.Slot.{Slot}

@@ -4,10 +4,8 @@ use Rattle.std.specs.Prelude.{List, None, Option, Some, [], cond, length, true, 
 use lib.ListN.{get_elem?}
 use mathlib.Core.Option.{some}
 use Rattle.atomic_table.specs.Table.{Me, rest}
-use Rattle.model_core.specs.{OpWords, user_op}
-use Rattle.model_core.specs.Actors as model
-use Rattle.model_core.specs.AnswerFits.{AnswerFits}
-use Rattle.model_core.specs.Hands.{GivesFailed}
+use Rattle.model_core.specs.{OpWords, user_op, AnswerFits, GivesFailed}
+use Rattle.model_core.specs.States as model
 use Rattle.model_core.specs.declared.words.Layout.{Layout}
 use Rattle.model_core.specs.declared.ops.Op.TheVariants as op
 use Rattle.model_core.specs.declared.steps.FlusherStep.{FlusherStep}
@@ -20,17 +18,14 @@ use Rattle.model_own.specs.declared.errand.ErrandStep.TheVariants as errand_step
 use Rattle.model_core.specs.declared.ops.Answer.{Answer}
 use Rattle.model_core.specs.declared.ops.Answer.TheVariants as answer
 use Rattle.model_core.specs.declared.ops.Step.{Step}
-use Rattle.model_own.specs.OwnTurn.{UserTurn}
-use Rattle.model_own.specs.OwnWrites.{LogWork, own_goes_on, own_lends, own_next, OwnUser}
-use Rattle.model_own.specs.ErrandFits.{ErrandFits, has_work}
-use Rattle.redo_disk.specs.Seen.{Seen}
-use Rattle.redo_drive.specs.Failures.{call_answer}
-use Rattle.redo_drive.specs.Playing.{LogReady, run_data_side, run_log_side, RunOf, told_by}
+use Rattle.model_own.specs.{UserTurn, LogWork, own_goes_on, own_lends, own_next, OwnUser, has_work}
+use Rattle.model_own.specs.ErrandFits.{ErrandFits}
+use Rattle.redo_disk.specs.{Seen}
+use Rattle.redo_drive.specs.{call_answer, LogReady, run_data_side, run_log_side, RunOf, told_by}
 use Rattle.redo_drive.specs.declared.device.Device.TheVariants.{Log}
 use Rattle.redo_drive.specs.declared.parts.Parts.{Parts}
 use Rattle.redo_ownmachine.specs.OwnSeats.{OwnSeats}
-use Rattle.redo_ownmachine.specs.OwnAsking.{own_core_of}
-use Rattle.redo_ownmachine.specs.OwnStore.{OwnRunsWith}
+use Rattle.redo_ownmachine.specs.OwnStore.{own_core_of, OwnRunsWith}
 use Rattle.redo_ownuser.specs.OwnFits.{OwnAnswerFits, WorkGoesOn}
 use Rattle.redo_flushlist.specs.{Listing}
 use Rattle.redo_rule.specs.Plays.{list_behind, ListFits, TakesList, taking}

@@ -2,18 +2,16 @@
 use Rattle.std.specs.Prelude.{None, Result, Some, ℕ, ◌≡◌}
 use Rattle.model_core.specs.{LogServed}
 use Rattle.model_core.specs.declared.ops.Op.TheVariants as op
-use Rattle.redo_disk.specs.{Call, EndWith, error_of, MakesCalls}
-use Rattle.redo_disk.specs.Seen.{Seen}
+use Rattle.redo_disk.specs.{Call, EndWith, error_of, MakesCalls, Seen}
 use Rattle.redo_disk.specs.declared.error.DevError.{DevError}
-use Rattle.redo_drive.specs.Devices.{call_code}
+use Rattle.redo_drive.specs.{call_code, MayWriteLent}
 use Rattle.redo_drive.specs.LogPartSide as log_part
 use Rattle.redo_drive.specs.declared.device.Device.TheVariants.{Log}
 use Rattle.redo_logdev.specs.Part as log
 use Rattle.model_core.specs.declared.ops.Answer.{Answer}
 use Rattle.model_core.specs.declared.ops.Step.{Step}
-use Rattle.model_own.specs.OwnWrites.{LogWork, own_goes_on, own_lends, own_step_of, OwnUser}
+use Rattle.model_own.specs.{LogWork, own_goes_on, own_lends, own_step_of, OwnUser}
 use Rattle.model_own.specs.ErrandFits.{ErrandFits}
-use Rattle.redo_drive.specs.Playing.{MayWriteLent}
 use Rattle.redo_ownrule.specs.OwnPlays.{with_work}
 use Rattle.redo_ownuser.specs.OwnFits.{OwnAnswerFits, WorkGoesOn}
 use Rattle.redo_rule.specs.declared.law.Desk.{Desk}

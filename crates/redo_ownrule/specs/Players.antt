@@ -1,11 +1,10 @@
 -- Who plays at a table, and the actors that they leave.
 use Rattle.std.specs.Prelude.{Bool, List, None, Option, Some, [], false, map, true, suc, zero, ℕ, ◌++◌, ◌+◌, ◌∷◌, ◌≡◌}
-use Rattle.model_core.specs.Actors as model
-use Rattle.model_core.specs.Hands.{HoldsNothing, IsFreeToCheck}
-use Rattle.model_core.specs.Later.{IsSameActor}
-use Rattle.model_own.specs.OwnWrites.{LogWork}
-use Rattle.model_own.specs.ErrandFits.{ErrandFits, has_work}
-use Rattle.redo_drive.specs.Views.{view_of}
+use Rattle.model_core.specs.States as model
+use Rattle.model_core.specs.{HoldsNothing, IsFreeToCheck, IsSameActor}
+use Rattle.model_own.specs.{LogWork, has_work}
+use Rattle.model_own.specs.ErrandFits.{ErrandFits}
+use Rattle.redo_drive.specs.{view_of}
 use Rattle.redo_drive.specs.declared.actor.Actor.{Actor}
 use Rattle.redo_drive.specs.declared.actor.Actor.TheVariants as actor
 use Rattle.redo_ownrule.specs.OwnPlays.{errand_of}

@@ -5,9 +5,9 @@ use Rattle.atomic_table.specs.declared.shared.Seat.{Seat}
 use Rattle.model_core.specs.{next}
 use Rattle.model_core.specs.declared.ops.Op.{Op}
 use Rattle.model_core.specs.declared.ops.Step.{Step}
-use Rattle.model_own.specs.OwnWrites.{LogWork, own_next, OwnUser}
-use Rattle.redo_disk.specs.Seen.{Seen}
-use Rattle.redo_drive.specs.Views.{view_of}
+use Rattle.model_own.specs.{LogWork, own_next, OwnUser}
+use Rattle.redo_disk.specs.{Seen}
+use Rattle.redo_drive.specs.{view_of}
 use Rattle.redo_ownrule.specs.OwnMine.{IsOwnSeat, OwnHasGone}
 use Rattle.redo_ownrule.specs.OwnPlays.{HasWork}
 use Rattle.redo_ownrule.specs.declared.player.Player.{Player}

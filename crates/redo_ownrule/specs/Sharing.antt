@@ -4,12 +4,11 @@ use lib.ListN.{get_elem?}
 use mathlib.Core.Option.{some}
 use Rattle.atomic_table.specs.Seated.{TableId}
 use Rattle.atomic_table.specs.declared.shared.Seat.{Seat}
-use Rattle.model_core.specs.Actors as model
-use Rattle.model_own.specs.OwnWrites.{LogWork}
+use Rattle.model_core.specs.States as model
+use Rattle.model_own.specs.{LogWork}
 use Rattle.model_script.specs.declared.script.ScriptLine.{ScriptLine}
-use Rattle.redo_drive.specs.Making.{EndsWithReaders}
-use Rattle.redo_drive.specs.Startable.{MayBegin}
-use Rattle.redo_drive.specs.Views.{views_of}
+use Rattle.redo_drive.specs.Begins.{EndsWithReaders}
+use Rattle.redo_drive.specs.{MayBegin, views_of}
 use Rattle.redo_drive.specs.declared.actor.Actor.{Actor}
 use Rattle.redo_follow.specs.Following.{Following}
 use Rattle.redo_ownrule.specs.Players.{actor_of, AreInOrder, crew, IsAtRest, place, seated, workers}
@@ -68,12 +67,13 @@ module _ {L D R : Type 0} where
   abbrev pub IsFixed : Shared L D R → Type 0
   IsFixed shared = shared.board.shared.key.live ≡ None
 
-  -- THE RUN IS A LIVE ONE: its lines are handed in while it goes on, and none was told as it began. It isn't archived.
+  -- THE RUN IS A LIVE ONE: its lines are handed in while it goes on, and none was told as it began. Nobody reads its log.
   pub record IsLive (shared : Shared L D R) : Type 0 where
     pub live : Live
     pub is_live : shared.board.shared.key.live ≡ Some live
     pub no_script : shared_script shared ≡ []
     pub apart : shared.board.shared.key.archive ≡ false
+    pub alone : shared.board.shared.key.followers ≡ 0
 
   -- A run can start on the store, and there is room for the actors that it leaves. Where its script was told, that may begin,
   -- and there is room for its history.

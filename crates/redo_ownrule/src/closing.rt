@@ -1,9 +1,8 @@
 // A store after its run.
 ghost use Rattle.std.specs.Prelude.{◌≡◌, ◌+◌, List, is_some, length, map, Bool, Option};
 ghost use Rattle.std.specs.List.{AllZip};
-ghost use Rattle.model_own.specs.OwnWrites.{LogWork};
-ghost use Rattle.redo_drive.specs.History.{ListsInOrder};
-ghost use Rattle.redo_drive.specs.Views.{views_of};
+ghost use Rattle.model_own.specs.{LogWork};
+ghost use Rattle.redo_drive.specs.{ListsInOrder, views_of};
 ghost use Rattle.redo_ownrule.specs.Leaving.{LeavesHeard};
 ghost use Rattle.redo_ownrule.specs.Players.{AreInOrder, IsSamePlayer, actor_of, crew, workers};
 ghost use Rattle.redo_ownrule.specs.Sharing.{AllAtRest, AreActorsOf, AreSeatsOf, IsFixed, IsSeated, opened_of, own_of, shared_script, starts_of, table_of};

@@ -4,7 +4,8 @@
 //!
 //! `Shared::new` lays a store into a table, as `Shared::new_live` does for a live run, into which lines are handed,
 //! `Shared::seats` gives each player its seat, `ask` tells which Op a player asks for, `play` plays it on the table, and
-//! `Shared::finish` closes the table once all players are at rest, as `Shared::finish_live` does after a live run.
+//! `Shared::finish` closes the table once all players are at rest, as `Shared::finish_live` does after a live run, also
+//! where users of it were dropped.
 #![tactic(auto)]
 
 mod answering;

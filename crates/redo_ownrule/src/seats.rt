@@ -2,8 +2,8 @@
 ghost use Rattle.std.specs.Prelude.{[], Some, ◌≡◌, ◌≤◌, length, vec_capacity, Bool, ℕ, map};
 ghost use lib.ListN.{get_elem?};
 ghost use mathlib.Core.Option.{some};
-ghost use Rattle.model_core.specs.Actors as model;
-ghost use Rattle.redo_drive.specs.Views.{views_of};
+ghost use Rattle.model_core.specs.States as model;
+ghost use Rattle.redo_drive.specs.{views_of};
 ghost use Rattle.redo_ownrule.specs.Gathering.{AreHandedOut, HasPlayer, IsHeadOf};
 ghost use Rattle.redo_ownrule.specs.Players.{actor_of, place, seated};
 ghost use Rattle.redo_ownrule.specs.Sharing.{AllAtRest, AreSeatsOf, IsSeated, IsUnseated, own_of, table_of};
@@ -77,12 +77,12 @@ pub(crate) fn take_all<L: Sectors, D: Sectors, R: Receiver>(
     mut seats: Vec<Seat<L, D>>,
     players: &[Player<R>],
 )
-    requires apart { (own : Bool) × AreHandedOut table.now.table_id (place own players.now) (heard_by seats.items) players.now first.old seats.items }
+    requires apart { (number : ℕ → ℕ) × AreHandedOut table.now.table_id number (heard_by seats.items) players.now first.old seats.items }
     requires rest { AllAtRest players.now }
     requires all { length seats.items ≡ length players.now }
     ensures first { IsFirst table.now.table_id first.new }
-    ensures all { (own : Bool) → AreHandedOut table.now.table_id (place own players.now) (heard_by seats.items) players.now first.old seats.items
-        → first.new.me.0.seats ≡ seated (place own players.now) (heard_by seats.items) 0 players.now }
+    ensures all { (number : ℕ → ℕ) → AreHandedOut table.now.table_id number (heard_by seats.items) players.now first.old seats.items
+        → first.new.me.0.seats ≡ seated number (heard_by seats.items) 0 players.now }
     ensures part { HasPart first.old.me.0 → HasPart first.new.me.0 }
     ensures cleaner { (i : ℕ) (a : model.Actor) → get_elem? (views_of (map actor_of players.now)) i ≡ some a → IsCleaner a → HasPart first.new.me.0 }
 {

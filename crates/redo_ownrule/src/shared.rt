@@ -1,6 +1,6 @@
 // A store that its players share, each in a thread of its own.
 ghost use Rattle.std.specs.Prelude.{◌≡◌, IfErr, IfOk};
-ghost use Rattle.redo_drive.specs.Startable.{AreNewFollowers, MayBegin};
+ghost use Rattle.redo_drive.specs.{AreNewFollowers, MayBegin};
 ghost use Rattle.redo_ownrule.specs.Sharing.{IsNewlyShared};
 
 use crate::player::Player;

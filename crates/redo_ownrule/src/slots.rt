@@ -1,6 +1,6 @@
 // The log's work, where it lies beside the log part in a slot.
 ghost use Rattle.std.specs.Prelude.{Some, ◌≡◌};
-ghost use Rattle.model_own.specs.OwnWrites.{LogWork, own_next};
+ghost use Rattle.model_own.specs.{LogWork, own_next};
 ghost use Rattle.redo_ownrule.specs.OwnSlots.{GoesOnIn, IsWritten, LiesIn, MayTakeIn, MayWriteIn, MayWriteOf, TookIn, WroteIn};
 
 use redo_disk::{DevError, Sectors};

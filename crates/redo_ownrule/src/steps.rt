@@ -1,6 +1,6 @@
 // One Op of a user that writes for itself, on the shared table: the words.
 ghost use Rattle.std.specs.Prelude.{◌≡◌};
-ghost use Rattle.model_own.specs.ErrandFits.{has_work};
+ghost use Rattle.model_own.specs.{has_work};
 ghost use Rattle.redo_rule.specs.declared.law.View.{View as TheView};
 ghost use Rattle.model_core.specs.declared.ops.Op.TheVariants as op;
 ghost use Rattle.redo_ownrule.specs.OwnMine.{IsAnswering, KeepsOwnSeat, OwnHasPlayed, OwnMine};

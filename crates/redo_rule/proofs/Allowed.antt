@@ -8,23 +8,19 @@ use native.Mathlib.Decide.{ℕ_discrete}
 use prog.Atomic.{either}
 use Rattle.atomic_table.specs.Table.{Allows, gives, keeps, Me, put_back, rest, State, takes}
 use Rattle.model_core.proofs.Lists.{set_again, set_else}
-use Rattle.model_core.specs.{filled, Filling, Fills, flat, flat_page_words, index, lent, next, OnWord, took, word_found, words_after}
-use Rattle.model_core.specs.Actors as model
+use Rattle.model_core.specs.{filled, Filling, Fills, flat, flat_page_words, index, lent, next, OnWord, took, word_found, words_after, hand, IsFreeToCheck}
+use Rattle.model_core.specs.States as model
 use Rattle.model_core.specs.declared.words.Layout.{Layout}
 use Rattle.model_core.specs.declared.ops.Answer.{Answer}
 use Rattle.model_core.specs.declared.ops.Answer.TheVariants as answer
 use Rattle.model_core.specs.declared.ops.Op.{Op}
 use Rattle.model_core.specs.declared.ops.Op.TheVariants as op
 use Rattle.model_core.specs.declared.words.Word.{Word}
-use Rattle.redo_disk.specs.{Call}
-use Rattle.redo_disk.specs.Seen.{Seen}
+use Rattle.redo_disk.specs.{Call, Seen}
 use Rattle.redo_logdev.specs.Part as log
 use Rattle.redo_drive.proofs.MayTurn.{holds_sum}
 use Rattle.redo_drive.proofs.Played as played
-use Rattle.redo_drive.specs.Lists.{AreLists, listing_at, Listings, lists_of}
-use Rattle.redo_drive.specs.Playing.{HasSamePages, IsPlayed, run_data_side}
-use Rattle.redo_drive.specs.Calls.{CallsOn}
-use Rattle.redo_drive.specs.Receiving.{handed_by}
+use Rattle.redo_drive.specs.{AreLists, listing_at, Listings, lists_of, HasSamePages, IsPlayed, run_data_side, CallsOn, handed_by}
 use Rattle.redo_drive.specs.declared.parts.Parts.{Parts}
 use Rattle.redo_flushlist.specs.{Listing}
 use Rattle.redo_drive.proofs.Filled.{IsNoRead}
@@ -36,7 +32,6 @@ use Rattle.model_core.proofs.TurnWords.{IsOffTurns, next_off}
 use Rattle.redo_rule.proofs.Words.{plain_off, swapped}
 use Rattle.atomic_table.proofs.Lists.{set_here}
 use Rattle.model_core.proofs.Hands.{Handles}
-use Rattle.model_core.specs.Hands.{hand, IsFreeToCheck}
 use Rattle.redo_rule.specs.Handing.{appended_by, with_more}
 use Rattle.redo_rule.specs.Plays.{behind, gave, KeepsTexts, list_behind, list_said, ListFits, looked, no_filling, saw, seized, Stepped, TakesList, taking, view_behind}
 use Rattle.redo_rule.specs.OwnSide.{Beside, desk_with}

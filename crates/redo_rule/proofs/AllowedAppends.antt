@@ -5,19 +5,17 @@ use Rattle.std.specs.Prelude.{slice_index, slice_set}
 use mathlib.Core.Option as maybe
 use Rattle.atomic_table.specs.Table.{Allows, keeps, Me}
 use Rattle.model_core.proofs.Hands.{Handles}
-use Rattle.model_core.specs.{filled, lent, next, took}
-use Rattle.model_core.specs.Actors as model
-use Rattle.model_core.specs.Hands.{hand}
+use Rattle.model_core.specs.{filled, lent, next, took, hand}
+use Rattle.model_core.specs.States as model
 use Rattle.model_core.specs.declared.ops.Answer.{Answer}
 use Rattle.model_core.specs.declared.ops.Op.{Op}
 use Rattle.model_core.specs.declared.ops.Op.TheVariants as op
 use Rattle.redo_archiver.specs.{append_answer, append_code}
-use Rattle.redo_disk.specs.{Call}
-use Rattle.redo_disk.specs.Seen.{Seen}
+use Rattle.redo_disk.specs.{Call, Seen}
 use Rattle.redo_disk.specs.declared.error.DevError.{DevError}
 use Rattle.redo_disk.specs.declared.error.DevError.TheVariants.{Failed, NoMemory}
 use Rattle.redo_drive.proofs.Played.{untouched}
-use Rattle.redo_drive.specs.Playing.{HasSamePages, IsPlayed, run_data_side, RunOf}
+use Rattle.redo_drive.specs.{HasSamePages, IsPlayed, run_data_side, RunOf}
 use Rattle.redo_drive.specs.declared.parts.Parts.{Parts}
 use Rattle.redo_rule.proofs.Allowed.{same_content}
 use Rattle.redo_rule.proofs.Filled.{fills_block, handles_filled, IsNoGive}

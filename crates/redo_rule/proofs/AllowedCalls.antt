@@ -7,15 +7,14 @@ use mathlib.Core.Option as maybe
 use Rattle.atomic_table.specs.Table.{Allows, gives, keeps, Me, put_back, rest, State, takes}
 use Rattle.atomic_table.proofs.Lists.{set_here}
 use Rattle.model_core.proofs.Lists.{at_set, set_else}
-use Rattle.model_core.specs.{DataServed, filled, Filling, lent, LogServed, lsn, next, took}
-use Rattle.model_core.specs.Actors as model
+use Rattle.model_core.specs.{DataServed, filled, Filling, lent, LogServed, lsn, next, took, hand, IsFreeToCheck}
+use Rattle.model_core.specs.States as model
 use Rattle.model_core.specs.declared.ops.Answer.{Answer}
 use Rattle.model_core.specs.declared.ops.Answer.TheVariants as answer
 use Rattle.model_core.specs.declared.ops.Op.{Op}
 use Rattle.model_core.specs.declared.ops.Op.TheVariants as op
-use Rattle.model_own.specs.OwnWrites.{LogWork}
-use Rattle.redo_disk.specs.{Call, EndWith, MakesCalls}
-use Rattle.redo_disk.specs.Seen.{Seen}
+use Rattle.model_own.specs.{LogWork}
+use Rattle.redo_disk.specs.{Call, EndWith, MakesCalls, Seen}
 use Rattle.redo_disk.specs.declared.error.DevError.{DevError}
 use Rattle.redo_logdev.specs.Part as log
 use Rattle.redo_drive.proofs.ShapeStays.{served_shape}
@@ -23,11 +22,7 @@ use Rattle.redo_drive.specs.LogPartSide as log_part
 use Rattle.redo_drive.proofs.CallsOn.{calls_then}
 use Rattle.redo_drive.proofs.Played as played
 use Rattle.redo_drive.proofs.Played.{CallsLog}
-use Rattle.redo_drive.specs.Calls.{CallsOn}
-use Rattle.redo_drive.specs.Lists.{listing_at, Listings}
-use Rattle.redo_drive.specs.Devices.{call_code, code_of}
-use Rattle.redo_drive.specs.Failures.{call_answer}
-use Rattle.redo_drive.specs.Playing.{HasSamePages, IsPlayed, run_data_side, run_log_side, RunOf, told_by}
+use Rattle.redo_drive.specs.{CallsOn, call_answer, listing_at, Listings, call_code, code_of, HasSamePages, IsPlayed, run_data_side, run_log_side, RunOf, told_by}
 use Rattle.redo_drive.specs.declared.device.Device.TheVariants.{Data, Log}
 use Rattle.redo_drive.specs.declared.parts.Parts.{Parts}
 use Rattle.redo_rule.proofs.Allowed as allowed
@@ -36,7 +31,6 @@ use Rattle.redo_rule.proofs.Holders as holders
 use Rattle.redo_rule.proofs.Kept as kept
 use Rattle.redo_rule.proofs.Retook.{one_head}
 use Rattle.model_core.proofs.Hands.{Handles}
-use Rattle.model_core.specs.Hands.{hand, IsFreeToCheck}
 use Rattle.redo_rule.specs.OwnSide.{Beside, desk_with}
 use Rattle.redo_rule.specs.Plays.{batched, block_filling, called, no_filling, reached, Stepped, view_behind, view_reaching}
 use Rattle.redo_rule.specs.Ruled.{Knows, Ruled, slot_content}
@@ -249,6 +243,7 @@ module _ {L D : Type 0} (log_seen : L → Seen) (log_gives : L → Call → L �
         lists_are = R.lists_are;
         runs = R.runs;
         hears = R.hears;
+        reads = R.reads;
         loaded = R.loaded;
         count = R.count;
         log_calls = R.log_calls;

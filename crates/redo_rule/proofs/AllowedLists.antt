@@ -6,29 +6,26 @@ use mathlib.Core.Option as maybe
 use native.Mathlib.Decide.{ℕ_discrete}
 use prog.Atomic.{either}
 use Rattle.atomic_table.specs.Table.{Allows, Me, State}
-use Rattle.model_core.specs.{filled, lent, list_word, next, oldest_end, took}
-use Rattle.model_core.specs.Actors as model
+use Rattle.model_core.specs.{filled, lent, list_word, next, oldest_end, took, hand, IsFreeToCheck}
+use Rattle.model_core.specs.States as model
 use Rattle.model_core.specs.declared.ops.Answer.{Answer}
 use Rattle.model_core.specs.declared.ops.Answer.TheVariants as answer
 use Rattle.model_core.specs.declared.ops.Op.{Op}
 use Rattle.model_core.specs.declared.ops.Op.TheVariants as op
 use Rattle.model_running.proofs.ListsReady.{list_ready}
-use Rattle.model_running.specs.ListReady.{ListReady}
-use Rattle.redo_disk.specs.{Call}
-use Rattle.redo_disk.specs.Seen.{Seen}
+use Rattle.model_running.specs.Ready.{ListReady}
+use Rattle.redo_disk.specs.{Call, Seen}
 use Rattle.redo_flushlist.specs.{Listing, without_page}
 use Rattle.redo_logdev.specs.Part as log
 use Rattle.redo_flushlist.specs.declared.dirty.Dirty.{Dirty}
 use Rattle.redo_drive.proofs.Listings.{add_left, remove_left}
 use Rattle.redo_drive.proofs.Played as played
-use Rattle.redo_drive.specs.Lists.{added, AreLists, listing_at, Listings, lists_of, no_list, removed, with_list}
-use Rattle.redo_drive.specs.Playing.{run_data_side, run_log_side}
+use Rattle.redo_drive.specs.{added, AreLists, listing_at, Listings, lists_of, no_list, removed, with_list, run_data_side, run_log_side}
 use Rattle.redo_drive.specs.declared.parts.Parts.{Parts}
 use Rattle.redo_rule.proofs.Allowed as allowed
 use Rattle.redo_rule.proofs.Filled.{handles_filled}
 use Rattle.redo_rule.proofs.Retook.{one_head}
 use Rattle.model_core.proofs.Hands.{Handles}
-use Rattle.model_core.specs.Hands.{hand, IsFreeToCheck}
 use Rattle.redo_rule.specs.Plays.{list_behind, list_said, ListFits, no_filling, seized_list, Stepped, TakesList}
 use Rattle.redo_rule.specs.OwnSide.{Beside, desk_with}
 use Rattle.redo_rule.specs.Ruled.{Ruled, slot_content}

@@ -5,10 +5,9 @@ use Rattle.atomic_table.specs.declared.shared.Seat.{Seat}
 use Rattle.model_core.specs.{Given}
 use Rattle.model_core.specs.declared.ops.Step.{Step}
 use Rattle.redo_archiver.specs.{append_answer}
-use Rattle.redo_disk.specs.Seen.{Seen}
+use Rattle.redo_disk.specs.{Seen}
 use Rattle.redo_disk.specs.declared.error.DevError.{DevError}
-use Rattle.redo_drive.specs.Receiving.{HasTaken}
-use Rattle.redo_drive.specs.Views.{view_of}
+use Rattle.redo_drive.specs.{HasTaken, view_of}
 use Rattle.redo_drive.specs.declared.actor.Actor.{Actor}
 use Rattle.redo_rule.proofs.Stepping.{append_leaves}
 use Rattle.redo_rule.proofs.Took.{Steps}

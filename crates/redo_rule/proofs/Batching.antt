@@ -4,20 +4,15 @@ use Rattle.atomic_table.specs.Seated.{TableId}
 use Rattle.atomic_table.specs.Table.{Allows, Me, rest}
 use Rattle.atomic_table.specs.declared.shared.Seat.{Seat}
 use Rattle.model_base.specs.declared.shape.Shape.{Shape}
-use Rattle.model_core.specs.{DataServed, filled, Given, KeptPage, lent, next, word_count}
-use Rattle.model_core.specs.Actors as model
+use Rattle.model_core.specs.{DataServed, filled, Given, KeptPage, lent, next, word_count, AnswerFits, IsFreeToCheck}
+use Rattle.model_core.specs.States as model
 use Rattle.model_core.specs.declared.ops.Answer.{Answer}
 use Rattle.model_core.specs.declared.ops.Op.{Op}
 use Rattle.model_core.specs.declared.ops.Op.TheVariants as op
 use Rattle.model_core.specs.declared.ops.Step.{Step}
 use Rattle.redo_drive.specs.DataPartSide as data_part
-use Rattle.redo_disk.specs.{Call, EndWith, MakesCalls}
-use Rattle.redo_disk.specs.Seen.{Seen}
-use Rattle.redo_drive.specs.Devices.{call_code}
-use Rattle.redo_drive.specs.Failures.{call_answer}
-use Rattle.redo_drive.specs.Playing.{DataReady, HasWholePages, MayBatchLent, run_data_side, RunOf}
-use Rattle.redo_drive.specs.Receiving.{HasTaken, MarkFits}
-use Rattle.redo_drive.specs.Views.{view_of}
+use Rattle.redo_disk.specs.{Call, EndWith, MakesCalls, Seen}
+use Rattle.redo_drive.specs.{call_code, call_answer, DataReady, HasWholePages, MayBatchLent, run_data_side, RunOf, HasTaken, MarkFits, view_of}
 use Rattle.redo_drive.specs.declared.actor.Actor.{Actor}
 use Rattle.redo_drive.specs.declared.device.Device.TheVariants.{Data}
 use Rattle.redo_rule.proofs.AllowedCalls.{allows_batched, allows_reach}
@@ -26,8 +21,6 @@ use Rattle.redo_rule.proofs.Filled.{IsPlainOp, plain_filled}
 use Rattle.redo_rule.proofs.Kept as kept
 use Rattle.redo_rule.proofs.Stepping as stepping
 use Rattle.redo_rule.proofs.Took.{leaves, may_take, took_plain}
-use Rattle.model_core.specs.AnswerFits.{AnswerFits}
-use Rattle.model_core.specs.Hands.{IsFreeToCheck}
 use Rattle.redo_rule.specs.Mine.{HasPlayed, IsSameSeat}
 use Rattle.redo_rule.specs.Ops.{HasPlayedOp}
 use Rattle.redo_rule.specs.Plays.{batched, Carries, no_filling, reached, Stepped, view_reaching}
@@ -224,6 +217,7 @@ module _ {L D R : Type 0} {table : TableId} {seat : Seat (Slot L D) (View L D)} 
                   appended = l.appended;
                   blocks = l.blocks;
                   got = l.got;
+                  reads = l.reads;
                 }
 
                 turn : HasPlayed log_seen data_seen (view_reaching seat.me.0 d) (view_of old) step (view_of new)

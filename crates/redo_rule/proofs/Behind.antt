@@ -4,13 +4,12 @@ use Rattle.atomic_table.specs.Seated.{TableId}
 use Rattle.atomic_table.specs.declared.shared.Seat.{Seat}
 use Rattle.model_core.proofs.Asks.{batch_writer}
 use Rattle.model_core.proofs.Later.{later_trans, took_later}
-use Rattle.model_core.specs.{filled, next, took}
-use Rattle.model_core.specs.Actors as model
-use Rattle.model_core.specs.Later.{IsSameActor}
+use Rattle.model_core.specs.{filled, next, took, IsSameActor}
+use Rattle.model_core.specs.States as model
 use Rattle.model_core.specs.declared.ops.Op.TheVariants as op
 use Rattle.model_core.specs.declared.ops.Step.{Step}
 use Rattle.model_running.proofs.SeatsKeep.{filled_later}
-use Rattle.redo_disk.specs.Seen.{Seen}
+use Rattle.redo_disk.specs.{Seen}
 use Rattle.redo_rule.specs.Mine.{HasPlayed, Mine}
 use Rattle.redo_rule.specs.Seating.{HasPart, IsCleaner, IsSeatOf}
 use Rattle.redo_rule.specs.declared.law.Keeping.{Keeping}

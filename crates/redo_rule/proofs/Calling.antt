@@ -3,25 +3,18 @@ use Rattle.std.proofs.Common.{List, Result, None, Option, Some, [], ap, arith, g
 use Rattle.atomic_table.specs.Seated.{TableId}
 use Rattle.atomic_table.specs.Table.{Allows, Me, rest}
 use Rattle.atomic_table.specs.declared.shared.Seat.{Seat}
-use Rattle.model_core.specs.{filled, Filling, Given, lent, LogServed, lsn, next, took}
-use Rattle.model_core.specs.Actors as model
-use Rattle.model_core.specs.AnswerFits.{AnswerFits}
-use Rattle.model_core.specs.Hands.{hand, IsFreeToCheck}
+use Rattle.model_core.specs.{filled, Filling, Given, lent, LogServed, lsn, next, took, AnswerFits, hand, IsFreeToCheck}
+use Rattle.model_core.specs.States as model
 use Rattle.model_core.specs.declared.ops.Answer.{Answer}
 use Rattle.model_core.specs.declared.ops.Op.{Op}
 use Rattle.model_core.specs.declared.ops.Op.TheVariants as op
 use Rattle.model_core.specs.declared.ops.Step.{Step}
-use Rattle.redo_disk.specs.{Call, error_of}
-use Rattle.redo_disk.specs.Seen.{Seen}
+use Rattle.redo_disk.specs.{Call, error_of, Seen}
 use Rattle.redo_disk.specs.declared.error.DevError.{DevError}
 use Rattle.redo_logdev.specs.Part as log
 use Rattle.redo_drive.specs.LogPartSide as log_part
 use Rattle.redo_drive.proofs.Played.{CallsLog}
-use Rattle.redo_drive.specs.Devices.{call_code}
-use Rattle.redo_drive.specs.Failures.{call_answer}
-use Rattle.redo_drive.specs.Playing.{LogReady, MayWriteLent, run_log_side, RunOf, told_by}
-use Rattle.redo_drive.specs.Receiving.{HasTaken, MarkFits}
-use Rattle.redo_drive.specs.Views.{view_of}
+use Rattle.redo_drive.specs.{call_code, call_answer, LogReady, MayWriteLent, run_log_side, RunOf, told_by, HasTaken, MarkFits, view_of}
 use Rattle.redo_drive.specs.declared.actor.Actor.{Actor}
 use Rattle.redo_drive.specs.declared.device.Device.TheVariants.{Log}
 use Rattle.redo_rule.proofs.AllowedCalls.{allows_called, hand_of}

@@ -2,15 +2,13 @@
 use Rattle.std.proofs.Common.{List, None, Option, Some, arith, inl, inr, subst, true, ℕ, ⊎_elim, ◌<◌, ◌≡◌, ◌⊎◌}
 use native.Mathlib.Decide.{dec_le}
 use Rattle.model_core.specs.{HasLost}
-use Rattle.model_core.specs.Actors as model
+use Rattle.model_core.specs.States as model
 use Rattle.model_running.proofs.Archiving.{lost_code}
 use Rattle.redo_archiver.specs.{append_code}
-use Rattle.redo_disk.specs.Seen.{Seen}
+use Rattle.redo_disk.specs.{Seen}
 use Rattle.redo_disk.specs.declared.error.DevError.{DevError}
 use Rattle.redo_disk.specs.declared.error.DevError.TheVariants.{Failed, NoMemory}
-use Rattle.redo_drive.specs.Failures.{HasFailedBy}
-use Rattle.redo_drive.specs.Playing.{RunOf}
-use Rattle.redo_drive.specs.Running.{RunsWith}
+use Rattle.redo_drive.specs.{HasFailedBy, RunOf, RunsWith}
 use Rattle.redo_drive.specs.declared.device.Device.TheVariants.{Data, Log}
 use Rattle.redo_drive.specs.declared.parts.Parts.{Parts}
 use Rattle.redo_rule.proofs.Failing.{caused}

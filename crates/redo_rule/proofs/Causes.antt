@@ -1,16 +1,14 @@
 -- Why an answer of `play` came: a wait met its condition, an end was one, and a failure had a cause.
-use Rattle.std.proofs.Common.{Bool, List, ap, arith, cond, false, inl, inr, is_some, length, refl, subst, sym, true, ℕ, ⊎_elim}
-use Rattle.std.proofs.Common.{◌<◌, ◌∙◌, ◌≡◌, ◌⊎◌}
+use Rattle.std.proofs.Common.{Bool, List, ap, arith, cond, false, inl, inr, is_some, length, refl, subst, sym, true, ℕ, ⊎_elim, ◌<◌, ◌∙◌, ◌≡◌, ◌⊎◌}
 use lib.ListN.{get_elem?}
 use mathlib.Core.Option.{some, some-injective}
 use Rattle.model_core.proofs.Endings.{ended_of, ended_well, idle_of, quiet, resting_code, resting_free, turn_ends}
 use Rattle.model_core.proofs.FailedSteps.{turn_fails}
 use Rattle.model_core.proofs.Lists.{set_at}
 use Rattle.model_core.proofs.Rests.{rests}
-use Rattle.model_core.specs.{answer_of, filled, Filling, HasLost, is_checking, LostAt, next, old_of, own_op, step_of, took, UserState}
-use Rattle.model_core.specs.Actors as model
-use Rattle.model_core.specs.Hands.{GivesFailed, StoresFailed}
-use Rattle.model_core.specs.Waiting.{ending}
+use Rattle.model_core.specs.{answer_of, filled, Filling, HasLost, is_checking, LostAt, next, old_of, own_op, step_of, took, UserState, GivesFailed, StoresFailed}
+use Rattle.model_core.specs.States as model
+use Rattle.model_core.specs.Program.{ending}
 use Rattle.model_core.specs.declared.ops.Answer.{Answer}
 use Rattle.model_core.specs.declared.ops.Answer.TheVariants as answer
 use Rattle.model_core.specs.declared.ops.Op.TheVariants as op
@@ -21,11 +19,8 @@ use Rattle.model_core.specs.declared.words.Word.TheVariants as word
 use Rattle.model_running.proofs.Filling.{next_filled}
 use Rattle.model_running.specs.ReadHalf.{ReadsInRun}
 use Rattle.model_core.specs.declared.steps.ReaderStep.TheVariants as reader_step
-use Rattle.redo_disk.specs.Seen.{Seen}
-use Rattle.redo_drive.specs.Lists.{lists_of}
-use Rattle.redo_drive.specs.Playing.{run_data_side, run_log_side}
-use Rattle.redo_drive.specs.Turning.{code_in}
-use Rattle.redo_drive.specs.Views.{view_of}
+use Rattle.redo_disk.specs.{Seen}
+use Rattle.redo_drive.specs.{lists_of, run_data_side, run_log_side, code_in, view_of}
 use Rattle.redo_drive.specs.declared.actor.Actor.{Actor}
 use Rattle.redo_rule.proofs.Caused as caused
 use Rattle.redo_rule.proofs.Filled.{checks_filled, ending_filled, gives_filled, stores_filled, waits_filled}

@@ -5,14 +5,12 @@ use mathlib.Core.Option as maybe
 use Rattle.atomic_table.specs.Seated.{TableId}
 use Rattle.atomic_table.specs.Table.{Allows, Joins, Me, Splits}
 use Rattle.atomic_table.specs.declared.shared.Seat.{Seat}
-use Rattle.model_core.specs.{word_count}
-use Rattle.redo_disk.specs.{Call}
-use Rattle.redo_disk.specs.Seen.{Seen}
+use Rattle.model_core.specs.{word_count, hand}
+use Rattle.redo_disk.specs.{Call, Seen}
 use Rattle.redo_rule.proofs.Allowed.{allows_look}
 use Rattle.redo_rule.proofs.Retook.{one_head}
 use Rattle.redo_rule.proofs.Seated.{joins_ok, splits_ok}
 use Rattle.redo_rule.specs.Cutting.{AreAtRest, IsFirst, MayCut, MayTakeIn}
-use Rattle.model_core.specs.Hands.{hand}
 use Rattle.redo_rule.specs.Mine.{Mine}
 use Rattle.redo_rule.specs.Plays.{Carries, looked}
 use Rattle.redo_rule.specs.Ruled.{Ruled}

@@ -3,12 +3,11 @@ use Rattle.std.proofs.Common.{None, Option, Some, ap, arith, inl, inr, refl, sym
 use native.Mathlib.Decide.{dec_le}
 use Rattle.model_core.specs.{archive_device_code, no_memory_code}
 use Rattle.redo_archiver.specs.{append_code}
-use Rattle.redo_disk.specs.Seen.{Seen}
+use Rattle.redo_disk.specs.{Seen}
 use Rattle.redo_disk.specs.declared.error.DevError.{DevError}
 use Rattle.redo_disk.specs.declared.error.DevError.TheVariants.{Failed, NoMemory}
 use Rattle.redo_logdev.specs.Part as log
-use Rattle.redo_drive.specs.Devices.{code_of, device_code}
-use Rattle.redo_drive.specs.Failures.{HasFailedBy}
+use Rattle.redo_drive.specs.{code_of, device_code, HasFailedBy}
 use Rattle.redo_drive.specs.declared.device.Device.{Device}
 use Rattle.redo_drive.specs.declared.device.Device.TheVariants.{Data, Log}
 use Rattle.redo_rule.specs.Failing.{CodeHasCause}

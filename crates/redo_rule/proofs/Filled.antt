@@ -1,14 +1,12 @@
 -- What a turn puts into an actor changes neither what it asks for nor what it holds. Where it gives something back, all that a
 -- turn may put into it is one.
-use Rattle.std.proofs.Common.{Bool, List, Option, Some, [], ap, append_assoc, arith, cond, false, length, length-append, refl, subst, sym, take, true}
-use Rattle.std.proofs.Common.{ℕ, ⊎_elim, ◌++◌, ◌∙◌, ◌∷◌, ◌≡◌}
+use Rattle.std.proofs.Common.{Bool, List, Option, Some, [], ap, append_assoc, arith, cond, false, length, length-append, refl, subst, sym, take, true, ℕ, ⊎_elim, ◌++◌, ◌∙◌, ◌∷◌, ◌≡◌}
 use Rattle.std.proofs.lemmas.List.{take_at}
 use Rattle.model_core.proofs.FailedCalls.{HasStored}
 use Rattle.model_core.proofs.Hands.{handles, Handles}
-use Rattle.model_core.specs.Actors as model
-use Rattle.model_core.specs.Hands.{GivesFailed, hand, IsFreeToCheck, reader_hand, StoresFailed}
-use Rattle.model_core.specs.Waiting.{ending, waits}
-use Rattle.model_core.specs.{archives, AreInFront, filled, Filling, Fills, Given, holds_tail, is_checking, IsText, joined_texts, lent, next, pending, reader_op, ReaderState, took}
+use Rattle.model_core.specs.States as model
+use Rattle.model_core.specs.{GivesFailed, hand, IsFreeToCheck, reader_hand, StoresFailed, archives, AreInFront, filled, Filling, Fills, Given, holds_tail, is_checking, IsText, joined_texts, lent, next, pending, reader_op, ReaderState, took}
+use Rattle.model_core.specs.Program.{ending, waits}
 use Rattle.model_core.specs.ReaderProgram.{reader_filled, reader_fills, reader_waits}
 use Rattle.model_core.specs.declared.ops.Answer.{Answer}
 use Rattle.model_core.specs.declared.ops.Op.{Op}
@@ -20,7 +18,7 @@ use Rattle.model_running.proofs.Filling.{next_filled}
 use Rattle.model_running.proofs.Following.{one_text}
 use Rattle.model_running.specs.ReadHalf.{handed_at}
 use Rattle.redo_drive.proofs.Filled.{IsNoRead, reader_or_no_read}
-use Rattle.redo_drive.specs.Receiving.{filling_of, handed_by}
+use Rattle.redo_drive.specs.{filling_of, handed_by}
 use Rattle.redo_rule.specs.Plays.{block_filling, KeepsTexts}
 
 -- what depends neither on a reader's block nor on the groups in front

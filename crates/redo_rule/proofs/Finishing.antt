@@ -1,12 +1,10 @@
 -- What a table leaves is what a run leaves, and so what every drive owes.
-use Rattle.std.proofs.Common.{Bool, cond, List, None, Option, Some, get_or, ap, arith, drop, false, get_or-set_other, length, refl, subst, suc, sym, true, zero, ℕ, ◌<◌, ◌^◌, ◌∙◌, ◌∷◌, ◌≡◌, ◌≢◌, ◌≤◌, []}
+use Rattle.std.proofs.Common.{Bool, cond, List, None, Option, Some, get_or, ap, arith, drop, false, get_or-set_other, is_some, length, refl, subst, suc, sym, true, zero, ℕ, ◌<◌, ◌^◌, ◌∙◌, ◌∷◌, ◌≡◌, ◌≢◌, ◌≤◌, []}
 use Rattle.std.specs.Prelude.{IfSome, slice_index, slice_set}
 use lib.ListN.{get_elem?}
 use mathlib.Core.Option as maybe
-use Rattle.model_core.specs.Actors as model
-use Rattle.model_core.specs.{ckpt_at, flushed_at, Given, HasLost, ReaderState, tail_of, write_at, wtail_at}
-use Rattle.model_core.specs.Layout.{failed_at}
-use Rattle.model_core.specs.Setup.{Setup}
+use Rattle.model_core.specs.States as model
+use Rattle.model_core.specs.{ckpt_at, flushed_at, Given, HasLost, ReaderState, tail_of, write_at, wtail_at, failed_at, Setup}
 use Rattle.model_running.proofs.Archiving.{losing_at}
 use Rattle.model_running.proofs.Finished.{marks_same}
 use Rattle.model_running.specs.{history_of, marks_in, word_marks}
@@ -14,43 +12,53 @@ use Rattle.model_running.specs.ReadHalf.{ReadsInRun, StaysInRun}
 use Rattle.model_report.specs.declared.entry.Entry.{Entry}
 use Rattle.model_report.specs.declared.entry.Marks.{Marks}
 use Rattle.model_script.specs.declared.script.ScriptLine.{ScriptLine}
-use Rattle.model_store.specs.Reading.{Reading}
+use Rattle.model_store.specs.{Reading}
 use Rattle.model_theorem.specs.{IsStart}
 use Rattle.redo_archiver.specs.{append_code}
-use Rattle.redo_disk.specs.{Call}
+use Rattle.redo_disk.specs.{Call, Seen}
 use Rattle.redo_disk.specs.declared.error.DevError.{DevError}
-use Rattle.redo_disk.specs.Seen.{Seen}
 use Rattle.redo_drive.proofs.FailureCode.{small_code}
 use Rattle.redo_drive.proofs.LeftRun as left_run
 use Rattle.redo_drive.proofs.LogCount.{log_within_script}
-use Rattle.redo_drive.proofs.Told.{as_many, have_groups, history_is}
+use Rattle.redo_drive.proofs.Told.{as_many, have_groups, have_kept, history_is}
 use Rattle.redo_follow.specs.Following.{Following}
 use Rattle.redo_drive.specs.Beginning.{HaveBegun, IsRunWith}
-use Rattle.redo_drive.specs.Startable.{HasReading, MayBegin}
-use Rattle.redo_drive.specs.History.{ListsInOrder, all_listed}
-use Rattle.redo_drive.specs.Reserved.{HasGroups}
-use Rattle.redo_drive.specs.Lists.{listing_at}
+use Rattle.redo_drive.specs.{HasReading, MayBegin, ListsInOrder, all_listed, view_of, views_of, listing_at, run_log_side, groups_of, follower_of, HasGot, IsSameFollower}
+use Rattle.redo_drive.specs.Reserved.{HasGroups, KeepsAll}
 use Rattle.redo_drive.specs.Leaving.{LeavesAs, LeavesWith}
-use Rattle.redo_drive.specs.Playing.{run_log_side}
-use Rattle.redo_drive.specs.Receiving.{follower_of, HasGot, IsSameFollower}
-use Rattle.redo_drive.specs.Running.{groups_of}
-use Rattle.redo_drive.specs.Views.{view_of, views_of}
 use Rattle.redo_drive.specs.declared.actor.Actor.{Actor}
 use Rattle.redo_drive.specs.declared.closed.Closed.{Closed}
 use Rattle.redo_rule.proofs.Kept as kept
 use Rattle.redo_rule.specs.Closing.{done_with, IsOwedRun, LeavesParts, TellsLoss}
-use Rattle.redo_rule.specs.Ending.{RunReaches}
+use Rattle.redo_rule.specs.Ending.{HaveLists, RunReaches}
 use Rattle.redo_rule.specs.Slots.{IsData, IsLog, IsPages}
 use Rattle.redo_rule.specs.declared.closing.Left.{Left}
 use Rattle.redo_rule.proofs.Told.{fixed_run}
 use Rattle.redo_store.specs.{IsRunnable}
 use Rattle.redo_rule.specs.declared.law.About.{About}
-use Rattle.model_own.specs.OwnWrites.{LogWork}
+use Rattle.model_own.specs.{LogWork}
 use Rattle.redo_rule.specs.OwnSide.{desk_with, work_of}
 use Rattle.redo_rule.specs.declared.law.Desk.{Desk}
 use Rattle.redo_rule.specs.declared.law.Heard.{Heard}
+use Rattle.redo_rule.specs.declared.law.Live.{Live}
 use Rattle.redo_rule.specs.declared.law.Slot.{Slot}
 use Rattle.redo_rule.specs.declared.law.Slot.TheVariants as slot
+
+-- a flush list lies in its slot
+pub list_there : {L D : Type 0} (xs : List (Slot L D)) → HaveLists xs → (i : ℕ) (x : Slot L D) → i < 4
+    → get_elem? xs (suc i) ≡ maybe.some x → IsPages x (λ l. Unit {0})
+list_there xs have i x below at =
+    let l = have i below in (l.0, maybe.some-injective x (slot.Pages l.0) (sym at ∙ l.1), tt)
+
+-- these four lie in the slots behind the first one
+pub four_at : {A : Type 0} (xs : List A) (a b c d : A) → get_elem? xs 1 ≡ maybe.some a → get_elem? xs 2 ≡ maybe.some b
+    → get_elem? xs 3 ≡ maybe.some c → get_elem? xs 4 ≡ maybe.some d
+    → (i : ℕ) (x : A) → get_elem? (a ∷ b ∷ c ∷ d ∷ []) i ≡ maybe.some x → get_elem? xs (suc i) ≡ maybe.some x
+four_at xs a b c d p q r s zero x at = p ∙ at
+four_at xs a b c d p q r s (suc zero) x at = q ∙ at
+four_at xs a b c d p q r s (suc (suc zero)) x at = r ∙ at
+four_at xs a b c d p q r s (suc (suc (suc zero))) x at = s ∙ at
+four_at xs a b c d p q r s (suc (suc (suc (suc i)))) x at = absurd (maybe.some-ne-none x (sym at))
 
 -- what stands in a place of a list
 pub read_at : (l : List ℕ) (i x : ℕ) → get_elem? l i ≡ maybe.some x → x ≡ slice_index l i
@@ -151,9 +159,6 @@ module _ {L D : Type 0} (log_seen : L → Seen) (log_gives : L → Call → L �
     pub log_there : (x : Slot L D) → get_elem? xs 0 ≡ maybe.some x → IsLog x (λ p. Unit {0})
     log_there x e = (desk, in_slot 0 x (slot.Log desk) e E.log, tt)
 
-    pub list_there : (i : ℕ) (x : Slot L D) → i < 4 → get_elem? xs (suc i) ≡ maybe.some x → IsPages x (λ l. Unit {0})
-    list_there i x l e = (listing_at E.parts.lists.lists i, in_slot (suc i) x (slot.Pages (listing_at E.parts.lists.lists i)) e (E.lists i l), tt)
-
     pub data_there : (x : Slot L D) → get_elem? xs 5 ≡ maybe.some x → IsData x (λ d. Unit {0})
     data_there x e = (E.parts.store, in_slot 5 x (slot.Data E.parts.store) e E.data_part, tt)
 
@@ -173,6 +178,7 @@ module _ {L D : Type 0} (log_seen : L → Seen) (log_gives : L → Call → L �
       last = E.parts;
       runs = E.runs;
       hears = E.hears;
+      reads = E.reads;
       loaded = E.loaded;
       log_calls = E.log_calls;
       data_calls = E.data_calls;
@@ -206,6 +212,12 @@ module _ {L D : Type 0} (log_seen : L → Seen) (log_gives : L → Call → L �
       (P : LeavesParts log_seen log_gives data_seen data_gives about heard (views_of actors) left) where
     pub groups : (seat : ℕ) (actor : Actor R) → seat < length actors → HasGroups (view_of (get_or actors seat actor))
     groups = have_groups log_seen data_seen P.run P.last actors P.runs
+
+    -- in a run that isn't a live one each user can tell all its groups
+    pub keep_all : about.live ≡ None → (seat : ℕ) (actor : Actor R) → seat < length actors
+        → KeepsAll (view_of (get_or actors seat actor))
+    keep_all fixed = have_kept log_seen data_seen P.run P.last actors P.runs
+        (P.is_about.is_run.live_is ∙ ap (λ (o : Option Live). is_some o) fixed)
 
     -- The run is that of this script, a live one or not, and the closed store is what the table leaves, with the run's
     -- history.

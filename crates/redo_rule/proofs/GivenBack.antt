@@ -1,6 +1,6 @@
 -- The archiver gives the log part back with the texts that it has.
 use Rattle.std.proofs.Common.{List, None, ap, arith, eqb-true, false, refl, subst, sym, true, ◌<◌, ◌∙◌, ◌≡◌}
-use Rattle.model_core.specs.Actors as model
+use Rattle.model_core.specs.States as model
 use Rattle.model_core.specs.ReaderProgram.{reader_filled, reader_fills}
 use Rattle.model_core.specs.declared.ops.Answer.{Answer}
 use Rattle.model_core.specs.declared.ops.Answer.TheVariants as answer
@@ -9,7 +9,7 @@ use Rattle.model_core.specs.declared.steps.ReaderStep.{ReaderStep}
 use Rattle.model_core.specs.declared.steps.ReaderStep.TheVariants as reader_step
 use Rattle.model_core.specs.{after_of, archives, filled, Filling, Given, reader_program, ReaderState, step_of, took}
 use Rattle.model_running.proofs.Archiving.{took_reader}
-use Rattle.redo_drive.specs.Receiving.{filling_of, HasTaken}
+use Rattle.redo_drive.specs.{filling_of, HasTaken}
 use Rattle.redo_drive.specs.declared.actor.Actor.TheVariants as own
 use Rattle.redo_follow.specs.Following.{Following}
 use Rattle.redo_rule.specs.Readers.{HasGivenBack}

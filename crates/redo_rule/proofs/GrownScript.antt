@@ -8,8 +8,7 @@ use Rattle.std.specs.List.{AllByRecursion}
 use native.Mathlib.Decide.{ℕ_discrete}
 use Rattle.model_base.specs.declared.shape.Shape.{Shape}
 use Rattle.model_core.proofs.Groups.{changed_else, changed_here}
-use Rattle.model_core.specs.{Line, line_at, line_of}
-use Rattle.model_core.specs.Setup.{Setup}
+use Rattle.model_core.specs.{Line, line_at, line_of, Setup}
 use Rattle.model_logcore.proofs.TakesLine.{grown}
 use Rattle.model_report.specs.{lines_of_user}
 use Rattle.model_running.specs.{IsOfScript}

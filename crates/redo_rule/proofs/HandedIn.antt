@@ -3,7 +3,7 @@ use Rattle.std.proofs.Common.{Bool, is_some, List, None, Option, Some, [], ap, a
 use Rattle.std.proofs.Math.ListN.{get_or-append}
 use Rattle.std.proofs.Math.Nat.{suc-mul}
 use Rattle.std.proofs.Math.Seq.{get_or-append_seam}
-use Rattle.std.proofs.lemmas.List.{get_or_past}
+use Rattle.std.proofs.lemmas.List.{get_or_past, set-get_or}
 use Rattle.std.proofs.lemmas.Option.{same_Some}
 use Rattle.std.specs.List.{AllByRecursion}
 use Rattle.std.specs.Prelude.{IfSome, slice_index, slice_set}
@@ -18,10 +18,8 @@ use Rattle.model_core.proofs.Collected.{group_has_text}
 use Rattle.model_core.proofs.Groups.{changed_else, changed_here}
 use Rattle.model_core.proofs.Lists.{at_set, set_at, set_else}
 use Rattle.model_core.proofs.Lsns.{lsn_le}
-use Rattle.model_core.specs.{Actor, holds_tail, IsScripted, Line, line_at, line_of, lsn, SharedWords, UserState}
-use Rattle.model_core.specs.Actors as model
-use Rattle.model_core.specs.Hands.{GivesFailed, hand, HoldsNothing, IsFreeToCheck, user_hand}
-use Rattle.model_core.specs.Setup.{Setup}
+use Rattle.model_core.specs.{Actor, holds_tail, IsScripted, Line, line_at, line_of, lsn, SharedWords, UserState, GivesFailed, hand, HoldsNothing, IsFreeToCheck, user_hand, Setup}
+use Rattle.model_core.specs.States as model
 use Rattle.model_core.specs.declared.steps.UserStep.{UserStep}
 use Rattle.model_core.specs.declared.steps.UserStep.TheVariants as user_step
 use Rattle.model_core.specs.declared.words.LinkBuffer.{LinkBuffer}
@@ -36,18 +34,16 @@ use Rattle.model_running.proofs.TakesLines.{AreFit, both_take_lines, bytes_take_
 use Rattle.model_running.specs.{IsOfScript, IsRunning}
 use Rattle.model_script.specs.{group_of, IsScriptLine, LineFits}
 use Rattle.model_script.specs.declared.script.ScriptLine.{ScriptLine}
-use Rattle.model_store.specs.Reading.{Reading}
+use Rattle.model_store.specs.{Reading}
 use Rattle.model_theorem.specs.{IsStart}
-use Rattle.redo_disk.specs.{Call}
-use Rattle.redo_disk.specs.Seen.{Seen}
+use Rattle.redo_disk.specs.{Call, Seen}
 use Rattle.redo_drive.proofs.UserLines.{few_modes, of_user}
 use Rattle.redo_drive.specs.Beginning.{HaveBegun, IsRunWith}
-use Rattle.redo_drive.specs.Playing.{RunOf, run_log_side}
-use Rattle.redo_drive.specs.Running.{RunsWith}
-use Rattle.redo_drive.specs.Startable.{HasReading}
+use Rattle.redo_drive.specs.{RunOf, run_log_side, RunsWith, HasReading}
 use Rattle.redo_rule.proofs.GrownScript.{all_snoc, of_grown}
 use Rattle.redo_rule.proofs.Kept as kept
 use Rattle.redo_rule.proofs.OwnStays.{work_beside}
+use Rattle.redo_rule.proofs.PagesRead.{reads_grown}
 use Rattle.redo_rule.proofs.Retook.{one_head}
 use Rattle.redo_rule.specs.HandIn.{handed_in, line_about, numbered_with, view_with, with_line}
 use Rattle.redo_rule.specs.Handing.{HasHandedOn, HaveHandedOn, HaveLoaded}
@@ -61,7 +57,6 @@ use Rattle.redo_rule.specs.declared.law.Live.{Live}
 use Rattle.redo_rule.specs.declared.law.Numbered.{Numbered}
 use Rattle.redo_rule.specs.declared.law.Slot.{Slot}
 use Rattle.redo_rule.specs.declared.law.View.{View}
-use Rattle.std.proofs.lemmas.List.{set-get_or}
 
 abbrev no_line : Line
 no_line = record { mode = 0; bytes = []; changes = [] }
@@ -413,6 +408,7 @@ module _ {L D : Type 0} (log_seen : L → Seen) (log_gives : L → Call → L �
         own = work_beside (run_log_side log_seen data_seen R.run) R.parts.log R.beside.own R.actors x.number b
             (subst (λ (e : Option Errand). SitsAs R.beside.own e x.number) plain (known.errand 0 x first)) R.own;
         hears = hears;
+        reads = λ n. reads_grown c u.user more R.parts.words.words R.runs.running.log_ghost.log (R.heard n) (R.reads n);
         loaded = loaded;
         count = length-set R.actors x.number b;
         told = told;

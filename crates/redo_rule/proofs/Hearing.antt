@@ -1,14 +1,11 @@
 -- What each actor has handed on, after a turn: the groups of the log up to its place, and blocks of the run.
-use Rattle.std.proofs.Common.{Bool, List, ap, append-nil, append_assoc, cond, eq-eqb, eqb, false, ne_eqb, refl, subst, sym, true, ℕ}
-use Rattle.std.proofs.Common.{[], ⊎_elim, ◌++◌, ◌==◌, ◌∙◌, ◌∷◌, ◌≡◌, ◌≢◌}
+use Rattle.std.proofs.Common.{Bool, List, ap, append-nil, append_assoc, cond, eq-eqb, eqb, false, ne_eqb, refl, subst, sym, true, ℕ, [], ⊎_elim, ◌++◌, ◌==◌, ◌∙◌, ◌∷◌, ◌≡◌, ◌≢◌}
 use Rattle.std.specs.List.{AllByRecursion}
 use lib.ListN.{get_elem?}
 use mathlib.Core.Option.{some}
-use Rattle.model_core.specs.Actors as model
-use Rattle.model_core.specs.DataSide.{DataSide}
-use Rattle.model_core.specs.LogSide.{LogSide}
-use Rattle.model_core.specs.{Entry, filled, Given, LostAt}
-use Rattle.model_core.specs.Turn.{Turn}
+use Rattle.model_core.specs.States as model
+use Rattle.model_core.specs.{DataSide, LogSide, Entry, filled, Given, LostAt}
+use Rattle.model_core.specs.Program.{Turn}
 use Rattle.model_core.specs.declared.ops.Answer.{Answer}
 use Rattle.model_core.specs.declared.ops.Step.{Step}
 use Rattle.model_core.specs.declared.steps.ReaderStep.{ReaderStep}
@@ -20,13 +17,9 @@ use Rattle.model_running.proofs.ReadKeeps.{LogGrows}
 use Rattle.model_running.proofs.RunBlocks.{grown}
 use Rattle.model_running.proofs.Receivers.{told_then}
 use Rattle.model_running.specs.ReadHalf.{HasRunBlock, RunBlockAt}
-use Rattle.redo_disk.specs.Seen.{Seen}
+use Rattle.redo_disk.specs.{Seen}
 use Rattle.redo_drive.proofs.TurnsOf.{goes_on, groups_grow, runs_then}
-use Rattle.redo_drive.specs.Lists.{lists_of}
-use Rattle.redo_drive.specs.Playing.{HasSamePages, RunOf, run_data_side, run_log_side}
-use Rattle.redo_drive.specs.Receiving.{handed_by}
-use Rattle.redo_drive.specs.Running.{RunsWith}
-use Rattle.redo_drive.specs.Turning.{core_of}
+use Rattle.redo_drive.specs.{lists_of, HasSamePages, RunOf, run_data_side, run_log_side, RunsWith, core_of, handed_by}
 use Rattle.redo_drive.specs.declared.parts.Parts.{Parts}
 use Rattle.redo_rule.specs.Handing.{appended_at, appended_by, HaveHandedOn, IsOfRun, with_more}
 use Rattle.redo_rule.specs.declared.law.Block.{Block}

@@ -2,13 +2,11 @@
 use Rattle.std.proofs.Common.{Bool, List, Some, ℕ, ◌≡◌}
 use lib.ListN.{get_elem?}
 use mathlib.Core.Option.{some}
-use Rattle.model_core.specs.Actors as model
-use Rattle.model_core.specs.Hands.{hand}
+use Rattle.model_core.specs.States as model
+use Rattle.model_core.specs.{hand}
 use Rattle.model_running.proofs.SlotHolders as slots
-use Rattle.redo_disk.specs.Seen.{Seen}
-use Rattle.redo_drive.specs.Playing.{RunOf, run_data_side, run_log_side}
-use Rattle.redo_drive.specs.Running.{RunsWith}
-use Rattle.redo_drive.specs.Turning.{core_of}
+use Rattle.redo_disk.specs.{Seen}
+use Rattle.redo_drive.specs.{RunOf, run_data_side, run_log_side, RunsWith, core_of}
 use Rattle.redo_drive.specs.declared.parts.Parts.{Parts}
 pub use Rattle.model_running.proofs.SlotHolders.{same_number}
 

@@ -6,13 +6,9 @@ use mathlib.Core.Option as maybe
 use native.Mathlib.Decide.{ℕ_discrete}
 use Rattle.atomic_table.specs.Table.{State}
 use Rattle.model_core.proofs.Lists.{at_set, set_at, set_else}
-use Rattle.model_core.specs.{answer_of, filled, Filling, Fills, lent, lsn, next, OpWords, SharedWords, step_of, took}
-use Rattle.model_core.specs.{UserState}
-use Rattle.model_core.specs.Actors as model
-use Rattle.model_core.specs.AnswerFits.{AnswerFits}
-use Rattle.model_core.specs.LogSide.{LogSide}
-use Rattle.model_core.specs.Setup.{Setup}
-use Rattle.model_core.specs.Turn.{LogServed, Turn}
+use Rattle.model_core.specs.{answer_of, filled, Filling, Fills, lent, lsn, next, OpWords, SharedWords, step_of, took, UserState, AnswerFits, LogSide, Setup, LogServed, GivesFailed, hand, IsFreeToCheck}
+use Rattle.model_core.specs.States as model
+use Rattle.model_core.specs.Program.{Turn}
 use Rattle.model_core.specs.declared.words.Layout.{Layout}
 use Rattle.model_core.specs.declared.ops.Answer.{Answer}
 use Rattle.model_core.specs.declared.ops.Op.{Op}
@@ -21,15 +17,14 @@ use Rattle.model_core.specs.declared.steps.UserStep.TheVariants as user_step
 use Rattle.model_logcore.proofs.Failures.{stored_cause}
 use Rattle.model_logcore.specs.{LogGhost, UserAt, UserFits}
 use Rattle.model_logcore.specs.LogLaws.{LogLaws}
-use Rattle.model_own.specs.ErrandFits.{has_work}
+use Rattle.model_own.specs.{has_work}
 use Rattle.model_pagecore.specs.DataLaws.{DataLaws}
 use Rattle.model_running.specs.Appending.{IsNoAppend}
 use Rattle.model_running.proofs.Filling.{next_filled}
 use Rattle.model_running.proofs.Turns.{next_words}
 use Rattle.redo_drive.proofs.DataPartLaws.{data_laws}
 use Rattle.redo_drive.specs.DataPartSide as data_part
-use Rattle.redo_disk.specs.{Call}
-use Rattle.redo_disk.specs.Seen.{Seen}
+use Rattle.redo_disk.specs.{Call, Seen}
 use Rattle.redo_flushlist.specs.{Listing}
 use Rattle.redo_logdev.specs.Part as log
 use Rattle.redo_drive.proofs.LogPartLaws.{log_laws}
@@ -37,21 +32,16 @@ use Rattle.redo_drive.specs.LogPartSide as log_part
 use Rattle.redo_drive.proofs.MayTurn as may_turn
 use Rattle.redo_drive.proofs.Told.{has_groups}
 use Rattle.redo_drive.proofs.TurnsOf as turns
-use Rattle.redo_drive.specs.Calls.{CallsOn}
-use Rattle.redo_drive.specs.Lists.{AreLists, lists_of}
-use Rattle.redo_drive.specs.Playing.{DataReady, HasSamePages, HasWholePages, IsPlayed, LogReady, RunOf, run_data_side, run_log_side}
-use Rattle.redo_drive.specs.Running.{RunsWith}
-use Rattle.redo_drive.specs.Turning.{core_of}
-use Rattle.redo_drive.specs.Receiving.{handed_by, MarkFits}
+use Rattle.redo_drive.specs.{CallsOn, AreLists, lists_of, DataReady, HasSamePages, HasWholePages, IsPlayed, LogReady, RunOf, run_data_side, run_log_side, RunsWith, core_of, handed_by, MarkFits}
 use Rattle.redo_drive.specs.declared.parts.Parts.{Parts}
 use Rattle.model_core.proofs.FailedCalls.{gives_hand, has_stored, stores}
 use Rattle.model_core.proofs.Hands.{stays_free}
 use Rattle.redo_rule.proofs.Filled.{free_filled, stored_before}
 use Rattle.redo_rule.proofs.Hearing.{hears_then, heard_else, heard_here, heard_then}
 use Rattle.redo_rule.proofs.Loading.{loaded_then}
-use Rattle.model_core.specs.Hands.{GivesFailed, hand, IsFreeToCheck}
+use Rattle.redo_rule.proofs.PagesRead.{reads_then}
 use Rattle.redo_rule.proofs.OwnStays.{work_stays, worker_holds}
-use Rattle.redo_rule.specs.Handing.{appended_by, HaveHandedOn, HaveLoaded, with_more}
+use Rattle.redo_rule.specs.Handing.{appended_by, HaveHandedOn, HaveLoaded, HaveRead, with_more}
 use Rattle.redo_rule.specs.OwnSide.{Beside, desk_with, HasItsWork, OwnSide, SitsAs}
 use Rattle.redo_rule.specs.Plays.{behind, MayGo, Shown, Stepped, view_behind}
 use Rattle.redo_rule.specs.Ruled.{IsRunAbout, IsSlotHeld, Knows, Ruled, slot_content}
@@ -248,6 +238,7 @@ module _ {L D : Type 0} (log_seen : L → Seen) (log_gives : L → Call → L �
     pub own : HasItsWork (run_log_side log_seen data_seen run) new.log beside.own after
     pub hears : HaveHandedOn (run_log_side log_seen data_seen run) run.setup.base new.log heard after
         runs.running.log_ghost.log
+    pub reads : HaveRead run.setup new.words.words heard runs.running.log_ghost.log
     pub loaded : HaveLoaded new.words.words after
     pub count : length after ≡ length R.actors
     pub told : (n : ℕ) (c : model.Actor) (code : ℕ) → get_elem? after n ≡ maybe.some c → GivesFailed c code
@@ -345,6 +336,7 @@ module _ {L D : Type 0} (log_seen : L → Seen) (log_gives : L → Call → L �
         own = left.own;
         runs = left.runs;
         hears = left.hears;
+        reads = left.reads;
         loaded = left.loaded;
         count = left.count ∙ R.count;
         log_calls = log_calls;
@@ -518,6 +510,9 @@ module _ {L D : Type 0} (log_seen : L → Seen) (log_gives : L → Call → L �
           own_is = ap (λ (z : Option OwnSide). is_some z) same_own;
           own = own_behind;
           hears = hears_behind;
+          reads = reads_then log_seen data_seen R.run R.parts new R.actors after x.number r (step_of (filled a f) r)
+              (laws_of_log log_seen data_seen R.run) (laws_of_data log_seen data_seen R.run) same R.runs turn R.heard
+              (handed_by (filled a f)) (appended_by a) R.reads;
           loaded = loaded_then log_seen data_seen R.run R.parts new R.actors after x.number r (step_of (filled a f) r) R.runs
               turn R.loaded;
           count = length-set R.actors x.number b;

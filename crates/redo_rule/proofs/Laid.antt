@@ -1,6 +1,6 @@
 -- What comes out of the slots, the last one first.
 use Rattle.std.proofs.Common.{List, [], ap, arith, length, length-append, refl, sym, ℕ, ◌++◌, ◌∙◌, ◌∷◌, ◌≡◌}
-use Rattle.redo_drive.specs.Lists.{listing_at, Listings}
+use Rattle.redo_drive.specs.{listing_at, Listings}
 use Rattle.redo_flushlist.specs.{Listing}
 use Rattle.redo_rule.specs.Sharing.{laid}
 use Rattle.redo_rule.specs.declared.law.Desk.{Desk}

@@ -14,6 +14,7 @@ pub mod Filled
 pub mod Finishing
 pub mod Gathered
 pub mod GivenBack
+pub mod Glances
 pub mod GrownScript
 pub mod HandedIn
 pub mod Hearing
@@ -21,9 +22,13 @@ pub mod Holders
 pub mod Kept
 pub mod Laid
 pub mod Loading
+pub mod LoadsOn
+mod Looks
 pub mod Opens
 pub mod OpensLive
 pub mod OwnStays
+pub mod PagesRead
+mod PutLanes
 pub mod Reached
 pub mod Retook
 pub mod Seated

@@ -1,14 +1,12 @@
 -- What the readers of the log have loaded of FLUSHED is at most that, after a turn too.
-use Rattle.std.proofs.Common.{Bool, List, ap, arith, cond, false, refl, slice_index, subst, sym, true, ⊎_elim, ℕ, inl, inr}
-use Rattle.std.proofs.Common.{◌==◌, ◌∙◌, ◌≡◌, ◌≤◌, ◌⊎◌, is_some}
+use Rattle.std.proofs.Common.{Bool, List, ap, arith, cond, false, refl, slice_index, subst, sym, true, ⊎_elim, ℕ, inl, inr, ◌==◌, ◌∙◌, ◌≡◌, ◌≤◌, ◌⊎◌, is_some}
 use lib.ListN.{get_elem?}
 use mathlib.Core.Option.{some}
 use Rattle.model_core.proofs.Lists.{at_set}
-use Rattle.model_core.specs.Actors as model
-use Rattle.model_core.specs.DataSide.{DataSide}
-use Rattle.model_core.specs.LogSide.{LogSide}
+use Rattle.model_core.specs.States as model
+use Rattle.model_core.specs.{DataSide, LogSide, after_of, answer_of, archives, checked_of, filled, flat, followed, has_all, layout_of, Listed, next, old_of, reader_op, reader_program, reader_took, ReaderState, shared_left, SharedWords, to_append, took, words_left}
 use Rattle.model_core.specs.ReaderProgram.{Filling, reader_filled}
-use Rattle.model_core.specs.Turn.{Turn}
+use Rattle.model_core.specs.Program.{Turn}
 use Rattle.model_core.specs.declared.ops.Answer.{Answer}
 use Rattle.model_core.specs.declared.ops.Op.TheVariants as op
 use Rattle.model_core.specs.declared.ops.Step.{Step}
@@ -16,17 +14,12 @@ use Rattle.model_core.specs.declared.steps.ReaderStep.{ReaderStep}
 use Rattle.model_core.specs.declared.steps.ReaderStep.TheVariants as reader_step
 use Rattle.model_core.specs.declared.words.Layout.{Layout}
 use Rattle.model_core.specs.declared.words.Word.TheVariants as word
-use Rattle.model_core.specs.{after_of, answer_of, archives, checked_of, filled, flat, followed, has_all, layout_of, Listed, next, old_of, reader_op, reader_program, reader_took}
-use Rattle.model_core.specs.{ReaderState, shared_left, SharedWords, to_append, took, words_left}
 use Rattle.model_running.proofs.Archiving.{reader_is, stays_other, took_reader}
 use Rattle.model_running.proofs.ArchiverStays.{rises}
 use Rattle.model_running.proofs.FlatWords.{flat_left}
 use Rattle.model_running.proofs.Turns.{next_words}
-use Rattle.redo_disk.specs.Seen.{Seen}
-use Rattle.redo_drive.specs.Lists.{lists_of}
-use Rattle.redo_drive.specs.Playing.{RunOf, run_data_side, run_log_side}
-use Rattle.redo_drive.specs.Running.{RunsWith}
-use Rattle.redo_drive.specs.Turning.{core_of}
+use Rattle.redo_disk.specs.{Seen}
+use Rattle.redo_drive.specs.{lists_of, RunOf, run_data_side, run_log_side, RunsWith, core_of}
 use Rattle.redo_drive.specs.declared.parts.Parts.{Parts}
 use Rattle.redo_rule.specs.Handing.{HaveLoaded}
 

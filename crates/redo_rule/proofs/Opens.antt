@@ -6,9 +6,8 @@ use mathlib.Core.Option as maybe
 use Rattle.atomic_table.specs.Table.{opening}
 use Rattle.model_base.specs.declared.shape.Shape.{Shape}
 use Rattle.model_core.proofs.Lsns.{lsn_block}
-use Rattle.model_core.specs.Actors as model
-use Rattle.model_core.specs.Setup.{Setup}
-use Rattle.model_core.specs.{archives, Entry, flat, flushed_at, Given, layout_of, ReaderState, Tiles}
+use Rattle.model_core.specs.States as model
+use Rattle.model_core.specs.{Setup, archives, Entry, flat, flushed_at, Given, layout_of, ReaderState, Tiles, HoldsNothing}
 use Rattle.model_core.specs.declared.words.Word.TheVariants as word
 use Rattle.model_logcore.proofs.StartEmpty.{start_empty}
 use Rattle.model_logcore.specs.{StartActor}
@@ -16,30 +15,23 @@ use Rattle.model_running.proofs.FlatWords.{flat_read}
 use Rattle.model_running.proofs.Following.{upto_back}
 use Rattle.model_running.specs.ReadHalf.{groups_upto}
 use Rattle.model_script.specs.declared.script.ScriptLine.{ScriptLine}
-use Rattle.model_store.specs.Reading.{Reading}
+use Rattle.model_store.specs.{Reading}
 use Rattle.model_theorem.specs.{IsStart}
-use Rattle.redo_disk.specs.{Call}
-use Rattle.redo_disk.specs.Seen.{Seen}
+use Rattle.redo_disk.specs.{Call, Seen}
 use Rattle.redo_logdev.specs.Part as log
 use Rattle.redo_drive.proofs.CallsOn.{not_called}
 use Rattle.redo_drive.specs.Begins.{BeginsOn, BeginsWith}
-use Rattle.redo_drive.specs.Calls.{CallsOn}
-use Rattle.redo_drive.specs.Lists.{AreLists, listing_at}
+use Rattle.redo_drive.specs.{CallsOn, AreLists, listing_at, groups_of, run_log_side, HasReading, views_of}
 use Rattle.redo_drive.specs.Beginning.{HaveBegun, IsRunWith}
-use Rattle.redo_drive.specs.Running.{groups_of}
 use Rattle.redo_drive.specs.Setups.{seated_actors}
-use Rattle.redo_drive.specs.Startable.{HasReading}
-use Rattle.redo_drive.specs.Views.{views_of}
 use Rattle.redo_drive.specs.declared.making.Beginning.{Beginning}
 use Rattle.redo_drive.specs.declared.parts.Parts.{Parts}
 use Rattle.model_core.proofs.FailedCalls.{gives_hand}
 use Rattle.redo_rule.proofs.Holders.{holding}
-use Rattle.model_core.specs.Hands.{HoldsNothing}
 use Rattle.model_core.specs.declared.words.Layout.{Layout}
 use Rattle.redo_words.specs.{shape_layout}
 use Rattle.redo_follow.specs.Following.{Following}
 use Rattle.redo_rule.proofs.Seated.{not_working}
-use Rattle.redo_drive.specs.Playing.{run_log_side}
 use Rattle.redo_rule.specs.Handing.{nothing}
 use Rattle.redo_rule.specs.Lively.{HasRoom}
 use Rattle.redo_rule.specs.OwnSide.{Beside, desk_with, HasItsWork, HasNoWork, OwnSide, SitsAs}
@@ -222,6 +214,7 @@ module _ {L D R : Type 0} (log_seen : L → Seen) (log_gives : L → Call → L 
           B.from.runs.running.both.logged.global.tiled.tiles (B.at_start.starts.each n a at));
       blocks = tt;
     };
+    reads = λ n. record { done = tt; now = tt };
     loaded = λ n r at. none_loaded B.run.setup B.at_start.seat_of B.at_start.writer n
         (slice_index start.parts.words.words flushed_at) r (B.at_start.starts.each n (model.Reader r) at);
     count = ap length (starts_so log_seen data_seen stands about script live followers firsts start B told);

@@ -1,21 +1,17 @@
 -- The rule holds of a table that is told of a live run.
-use Rattle.std.proofs.Common.{Bool, List, None, Option, Some, [], ap, arith, cond, false, is_some, length, refl}
-use Rattle.std.proofs.Common.{subst, suc, sym, true, zero, ℕ, ◌*◌, ◌+◌, ◌<◌, ◌∙◌, ◌∷◌, ◌≡◌, ◌≤◌}
+use Rattle.std.proofs.Common.{Bool, List, None, Option, Some, [], ap, arith, cond, false, is_some, length, refl, subst, suc, sym, true, zero, ℕ, ◌*◌, ◌+◌, ◌<◌, ◌∙◌, ◌∷◌, ◌≡◌, ◌≤◌}
 use lib.ListN.{get_elem?}
 use mathlib.Core.Option as maybe
 use Rattle.std.proofs.lemmas.Option.{same_Some}
 use Rattle.atomic_table.specs.Table.{opening}
 use Rattle.model_base.specs.declared.limits.TheConstants.{LSN_LIMIT}
-use Rattle.model_core.specs.Actors as model
+use Rattle.model_core.specs.States as model
 use Rattle.model_core.specs.{Given, Line, lsn}
 use Rattle.model_logcore.specs.{lengths}
-use Rattle.redo_disk.specs.{Call}
-use Rattle.redo_disk.specs.Seen.{Seen}
+use Rattle.redo_disk.specs.{Call, Seen}
 use Rattle.redo_drive.specs.Begins.{BeginsLive, BeginsOn}
-use Rattle.redo_drive.specs.Lists.{AreLists}
+use Rattle.redo_drive.specs.{AreLists, RunOf, views_of}
 use Rattle.redo_drive.specs.LiveActors.{live_actors}
-use Rattle.redo_drive.specs.Playing.{RunOf}
-use Rattle.redo_drive.specs.Views.{views_of}
 use Rattle.redo_drive.specs.declared.making.Beginning.{Beginning}
 use Rattle.redo_rule.proofs.Opens.{AllStand, IsToldOf, opens_any, slots_of, Stands, starts_so}
 use Rattle.redo_rule.specs.Handing.{nothing}

@@ -1,35 +1,25 @@
 -- A turn of whoever plays by its own program leaves the log's work of users that write for themselves as it was, and where
 -- it was.
-use Rattle.std.proofs.Common.{Bool, List, None, Option, Some, [], ap, arith, length, refl, set, subst, suc, sym, true, zero, ℕ, ⊎_elim}
-use Rattle.std.proofs.Common.{inl, inr, ◌+◌, ◌<◌, ◌∙◌, ◌∷◌, ◌≡◌, ◌≤◌, ◌⊎◌}
+use Rattle.std.proofs.Common.{Bool, List, None, Option, Some, [], ap, arith, length, refl, set, subst, suc, sym, true, zero, ℕ, ⊎_elim, inl, inr, ◌+◌, ◌<◌, ◌∙◌, ◌∷◌, ◌≡◌, ◌≤◌, ◌⊎◌}
 use lib.ListN.{get_elem?}
 use mathlib.Core.Option as maybe
-use Rattle.model_core.specs.{LogServed, Lent, next}
-use Rattle.model_core.specs.Actors as model
-use Rattle.model_core.specs.DataSide.{DataSide}
-use Rattle.model_core.specs.Hands.{hand}
-use Rattle.model_core.specs.LogSide.{LogSide}
+use Rattle.model_core.specs.{LogServed, Lent, next, DataSide, LogSide, hand, flusher_hand, writer_hand}
+use Rattle.model_core.specs.States as model
 use Rattle.model_core.specs.declared.steps.FlusherStep.{FlusherStep}
 use Rattle.model_core.specs.declared.steps.FlusherStep.TheVariants as flusher_step
 use Rattle.model_core.specs.declared.steps.WriterStep.{WriterStep}
 use Rattle.model_core.specs.declared.steps.WriterStep.TheVariants as writer_step
-use Rattle.model_core.specs.Hands.{flusher_hand, writer_hand}
 use Rattle.model_logcore.specs.LogLaws.{LogLaws}
-use Rattle.model_own.specs.OwnTurn.{all_actors}
-use Rattle.model_own.specs.OwnWrites.{LogWork, OwnUser}
-use Rattle.model_own.specs.ErrandFits.{has_work}
+use Rattle.model_own.specs.{all_actors, LogWork, OwnUser, has_work}
 use Rattle.model_own.specs.declared.errand.ErrandStep.{ErrandStep}
 use Rattle.model_own.specs.declared.errand.ErrandStep.TheVariants as errand_step
 use Rattle.model_ownrun.proofs.Errands.{in_hand, other_keeps}
 use Rattle.model_ownrun.proofs.Moves.{Runs}
-use Rattle.model_ownrun.proofs.Seats.{flusher_seat, flusher_seat_is, flusher_there, writer_seat, writer_seat_is}
-use Rattle.model_ownrun.proofs.Seats.{writer_there}
+use Rattle.model_ownrun.proofs.Seats.{flusher_seat, flusher_seat_is, flusher_there, writer_seat, writer_seat_is, writer_there}
 use Rattle.model_ownrun.specs.OwnRunning.{FlushesAt, WorkAt, WritesAt}
 use Rattle.model_pagecore.specs.DataLaws.{DataLaws}
-use Rattle.redo_disk.specs.Seen.{Seen}
-use Rattle.redo_drive.specs.Lists.{lists_of}
-use Rattle.redo_drive.specs.Playing.{run_data_side, run_log_side, RunOf}
-use Rattle.redo_drive.specs.Running.{RunsWith}
+use Rattle.redo_disk.specs.{Seen}
+use Rattle.redo_drive.specs.{lists_of, run_data_side, run_log_side, RunOf, RunsWith}
 use Rattle.redo_drive.specs.declared.parts.Parts.{Parts}
 use Rattle.redo_logdev.specs.Part as log
 use Rattle.redo_rule.specs.OwnSide.{HasItsWork, IsWorked, OwnSide, SitsAs}

@@ -3,9 +3,8 @@ use Rattle.std.proofs.Common.{Bool, List, cond, false, refl, true, ap, arith, in
 use Rattle.std.specs.Prelude.{slice_index}
 use lib.ListN.{get_elem?}
 use mathlib.Core.Option as maybe
-use Rattle.model_core.specs.{Given, HasLost, SharedWords}
-use Rattle.model_core.specs.Layout.{failed_at}
-use Rattle.model_core.specs.Actors as model
+use Rattle.model_core.specs.{Given, HasLost, SharedWords, failed_at}
+use Rattle.model_core.specs.States as model
 use Rattle.model_running.proofs.Archiving.{none_loses}
 use Rattle.model_running.proofs.Finished.{marks_same}
 use Rattle.model_running.specs.{marks_in}
@@ -15,15 +14,10 @@ use Rattle.model_running.proofs.Watermarks.{has_watermarks}
 use Rattle.model_running.proofs.MarksReach.{within_words}
 use Rattle.model_running.specs.Watermarks.{HasMarksWithin, HasWatermarks}
 use Rattle.redo_archiver.specs.{append_code}
-use Rattle.redo_disk.specs.{Call}
-use Rattle.redo_disk.specs.Seen.{Seen}
-use Rattle.redo_drive.specs.Failures.{HasFailedBy}
+use Rattle.redo_disk.specs.{Call, Seen}
+use Rattle.redo_drive.specs.{HasFailedBy, RunOf, run_data_side, run_log_side, RunsWith, core_of, views_of}
 use Rattle.redo_logdev.specs.Part as log
 use Rattle.redo_drive.specs.Leaving.{LeavesAs}
-use Rattle.redo_drive.specs.Playing.{RunOf, run_data_side, run_log_side}
-use Rattle.redo_drive.specs.Running.{RunsWith}
-use Rattle.redo_drive.specs.Turning.{core_of}
-use Rattle.redo_drive.specs.Views.{views_of}
 use Rattle.redo_drive.specs.declared.actor.Actor.{Actor}
 use Rattle.redo_drive.specs.declared.device.Device.TheVariants.{Data, Log}
 use Rattle.redo_drive.specs.declared.parts.Parts.{Parts}

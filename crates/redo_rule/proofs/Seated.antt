@@ -5,12 +5,11 @@ use lib.ListN.{get_elem?}
 use mathlib.Core.Option as maybe
 use Rattle.atomic_table.specs.Table.{Joins, Splits, State}
 use Rattle.model_core.proofs.Lists.{at_set}
-use Rattle.model_own.specs.ErrandFits.{has_work}
-use Rattle.redo_disk.specs.{Call}
-use Rattle.redo_disk.specs.Seen.{Seen}
+use Rattle.model_own.specs.{has_work}
+use Rattle.redo_disk.specs.{Call, Seen}
 use Rattle.redo_rule.proofs.Kept.{only}
 use Rattle.redo_rule.specs.Cutting.{AreAtRest, IsApart}
-use Rattle.model_core.specs.Hands.{hand, IsFreeToCheck}
+use Rattle.model_core.specs.{hand, IsFreeToCheck}
 use Rattle.redo_rule.specs.OwnSide.{HasNoWork, SitsAs}
 use Rattle.redo_rule.specs.Ruled.{Knows, Ruled}
 use Rattle.redo_rule.specs.Seats.{cut_left, cut_right, first_numbered, first_some, heads_cleaner, rest_numbered, spent, taken_in}
@@ -134,6 +133,7 @@ module _ {L D : Type 0} (log_seen : L → Seen) (log_gives : L → Call → L �
         lists_are = R.lists_are;
         runs = R.runs;
         hears = R.hears;
+        reads = R.reads;
         loaded = R.loaded;
         count = R.count;
         log_calls = R.log_calls;
@@ -232,6 +232,7 @@ module _ {L D : Type 0} (log_seen : L → Seen) (log_gives : L → Call → L �
         lists_are = R.lists_are;
         runs = R.runs;
         hears = R.hears;
+        reads = R.reads;
         loaded = R.loaded;
         count = R.count;
         log_calls = R.log_calls;

@@ -5,9 +5,8 @@ use Rattle.atomic_table.specs.Seated.{TableId}
 use Rattle.atomic_table.specs.Table.{Allows, Me, rest}
 use Rattle.atomic_table.specs.declared.shared.Seat.{Seat}
 use Rattle.model_core.proofs.WordNumbers.{index_below}
-use Rattle.model_core.specs.{filled, Filling, Fills, Given, index, IsWord, next, OnWord, OpWords, took}
-use Rattle.model_core.specs.Actors as model
-use Rattle.model_core.specs.AnswerFits.{AnswerFits}
+use Rattle.model_core.specs.{filled, Filling, Fills, Given, index, IsWord, next, OnWord, OpWords, took, AnswerFits, hand, IsFreeToCheck}
+use Rattle.model_core.specs.States as model
 use Rattle.model_core.specs.declared.ops.Answer.{Answer}
 use Rattle.model_core.specs.declared.ops.Answer.TheVariants as answer
 use Rattle.model_core.specs.declared.ops.Op.{Op}
@@ -15,12 +14,10 @@ use Rattle.model_core.specs.declared.ops.Op.TheVariants as op
 use Rattle.model_core.specs.declared.ops.Step.{Step}
 use Rattle.model_core.specs.declared.words.Word.{Word}
 use Rattle.redo_archiver.specs.{append_answer}
-use Rattle.redo_disk.specs.{Call}
+use Rattle.redo_disk.specs.{Call, Seen}
 use Rattle.redo_disk.specs.declared.error.DevError.{DevError}
-use Rattle.redo_disk.specs.Seen.{Seen}
 use Rattle.redo_flushlist.specs.{Listing}
-use Rattle.redo_drive.specs.Receiving.{filling_of, HasTaken, MarkFits}
-use Rattle.redo_drive.specs.Views.{view_of}
+use Rattle.redo_drive.specs.{filling_of, HasTaken, MarkFits, view_of}
 use Rattle.redo_drive.specs.declared.actor.Actor.{Actor}
 use Rattle.redo_rule.proofs.Allowed.{allows_add, allows_give, allows_give_list, allows_load, allows_store, allows_swap, allows_take, word_hand}
 use Rattle.redo_rule.proofs.AllowedLists.{allows_take_add, allows_take_oldest, allows_take_remove}
@@ -28,7 +25,6 @@ use Rattle.redo_rule.proofs.AllowedAppends.{allows_appended, append_hand}
 use Rattle.redo_rule.proofs.Filled.{fills_block, handles_filled, IsNoGive, IsPlainOp, keeps_listed}
 use Rattle.redo_rule.proofs.Took.{may_take, Steps, steps, took_given, took_plain, TookWith}
 use Rattle.model_core.proofs.Hands.{Handles}
-use Rattle.model_core.specs.Hands.{hand, IsFreeToCheck}
 use Rattle.redo_rule.specs.Ruled.{Ruled}
 use Rattle.redo_rule.specs.declared.law.About.{About}
 use Rattle.redo_rule.specs.Mine.{Mine}

@@ -4,25 +4,22 @@ use Rattle.atomic_table.specs.Lent.{seat_with}
 use Rattle.atomic_table.specs.Seated.{TableId}
 use Rattle.atomic_table.specs.Table.{Me, rest}
 use Rattle.atomic_table.specs.declared.shared.Seat.{Seat}
-use Rattle.model_core.specs.{filled, Given, next, took}
-use Rattle.model_core.specs.Actors as model
-use Rattle.model_core.specs.AnswerFits.{AnswerFits}
+use Rattle.model_core.specs.{filled, Given, next, took, AnswerFits, hand}
+use Rattle.model_core.specs.States as model
 use Rattle.model_core.specs.declared.ops.Answer.{Answer}
 use Rattle.model_core.specs.declared.ops.Answer.TheVariants as answer
 use Rattle.model_core.specs.declared.ops.Op.{Op}
 use Rattle.model_core.specs.declared.ops.Op.TheVariants as op
 use Rattle.model_core.specs.declared.ops.Step.{Step}
-use Rattle.redo_disk.specs.Seen.{Seen}
+use Rattle.redo_disk.specs.{Seen}
 use Rattle.redo_flushlist.specs.{Listing}
-use Rattle.redo_drive.specs.Receiving.{HasTaken, MarkFits}
-use Rattle.redo_drive.specs.Views.{view_of}
+use Rattle.redo_drive.specs.{HasTaken, MarkFits, view_of}
 use Rattle.redo_drive.specs.declared.actor.Actor.{Actor}
 use Rattle.redo_rule.proofs.Filled.{IsPlainOp}
 use Rattle.redo_rule.proofs.Kept.{same_pages}
 use Rattle.redo_rule.proofs.Stepping.{goes, held_leaves, listed, takes, taking_holds}
 use Rattle.redo_rule.proofs.Took.{may_take, steps, took_plain}
 use Rattle.model_core.proofs.Hands.{Handles}
-use Rattle.model_core.specs.Hands.{hand}
 use Rattle.model_core.specs.declared.limits.TheConstants.{FLUSH_LISTS}
 use Rattle.redo_rule.specs.Mine.{Mine}
 use Rattle.redo_rule.specs.Ops.{HasPlayedOp, MayPlay}

@@ -2,10 +2,9 @@
 use Rattle.std.proofs.Common.{Bool, List, None, Option, ap, false, is_some, subst, sym, ◌≡◌}
 use Rattle.model_core.specs.{Given}
 use Rattle.model_script.specs.declared.script.ScriptLine.{ScriptLine}
-use Rattle.redo_disk.specs.Seen.{Seen}
+use Rattle.redo_disk.specs.{Seen}
 use Rattle.redo_drive.specs.Beginning.{IsRunWith}
-use Rattle.redo_drive.specs.Playing.{RunOf}
-use Rattle.redo_drive.specs.Startable.{MayBegin}
+use Rattle.redo_drive.specs.{RunOf, MayBegin}
 use Rattle.redo_drive.specs.Begins.{BeginsWith}
 use Rattle.redo_drive.specs.declared.making.Beginning.{Beginning}
 use Rattle.redo_store.specs.declared.opened.Opened.{Opened}

@@ -4,19 +4,16 @@ use Rattle.atomic_table.specs.Seated.{TableId}
 use Rattle.atomic_table.specs.Table.{Me}
 use Rattle.atomic_table.specs.declared.shared.Seat.{Seat}
 use Rattle.model_core.proofs.Rests.{rests}
-use Rattle.model_core.specs.Actors as model
-use Rattle.model_core.specs.AnswerFits.{AnswerFits}
-use Rattle.model_core.specs.Hands.{hand, IsFreeToCheck}
-use Rattle.model_core.specs.{filled, Filling, Given, next, ReaderState, step_of, took, word_count}
+use Rattle.model_core.specs.States as model
+use Rattle.model_core.specs.{AnswerFits, hand, IsFreeToCheck, filled, Filling, Given, next, ReaderState, step_of, took, word_count}
 use Rattle.model_core.specs.declared.ops.Answer.{Answer}
 use Rattle.model_core.specs.declared.ops.Answer.TheVariants as answer
 use Rattle.model_core.specs.declared.ops.Op.{Op}
 use Rattle.model_core.specs.declared.ops.Op.TheVariants as op
 use Rattle.model_core.specs.declared.ops.Step.{Step}
 use Rattle.redo_archiver.specs.Lending as archiving
-use Rattle.redo_disk.specs.Seen.{Seen}
-use Rattle.redo_drive.specs.Receiving.{filling_of, follower_of, handed_by, HasGot, HasTaken, IsSameFollower, MarkFits}
-use Rattle.redo_drive.specs.Views.{view_of}
+use Rattle.redo_disk.specs.{Seen}
+use Rattle.redo_drive.specs.{filling_of, follower_of, handed_by, HasGot, HasTaken, IsSameFollower, MarkFits, view_of}
 use Rattle.redo_drive.specs.declared.actor.Actor.{Actor}
 use Rattle.redo_drive.specs.declared.actor.Actor.TheVariants as own
 use Rattle.redo_follow.specs.Following.{Following}
@@ -151,6 +148,7 @@ rested stands v old step new is free h =
         blocks = sym (append-nil (heard_of v).blocks);
         got = subst (λ (l : List Given). HasGot stands (follower_of old) l (follower_of new))
             (ap handed_by same ∙ plain_hands a free plain) t.got;
+        reads = refl;
       },
     )
 
@@ -224,6 +222,8 @@ module _ {L D R : Type 0} (table : TableId) (log_seen : L → Seen) (data_seen :
         appended = appended_by (view_of old);
         blocks = blocks_then;
         got = t.got;
+        reads = ap (λ (w : View L D). (heard_of w).reads) view
+            ∙ ap (λ (h : Heard). h.reads) (sym (ap heard_in one));
       }
 
   pub leaves : last.id ≡ seat.id → (Mine table last (view_of new) → IsSeatOf table last (view_of new))

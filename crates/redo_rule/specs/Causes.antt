@@ -1,8 +1,8 @@
 -- Why an answer of `play` came.
 use Rattle.std.specs.Prelude.{List, Option, Some, false, length, true, ℕ, ◌↔◌, ◌≡◌, ◌⊎◌}
-use Rattle.model_core.specs.{HasLost, is_checking, next}
-use Rattle.model_core.specs.Actors as model
-use Rattle.model_core.specs.Waiting.{ending, waits}
+use Rattle.model_core.specs.{HasLost, is_checking, next, GivesFailed, StoresFailed}
+use Rattle.model_core.specs.States as model
+use Rattle.model_core.specs.Program.{ending, waits}
 use Rattle.model_core.specs.declared.ops.Answer.{Answer}
 use Rattle.model_core.specs.declared.ops.Op.TheVariants as op
 use Rattle.model_core.specs.declared.ops.Step.{Step}
@@ -10,10 +10,9 @@ use Rattle.model_core.specs.declared.ops.Step.TheVariants as step
 use Rattle.model_core.specs.declared.steps.UserStep.TheVariants as user_step
 use Rattle.model_core.specs.declared.words.Word.TheVariants as word
 use Rattle.redo_archiver.specs.{append_code}
-use Rattle.redo_disk.specs.Seen.{Seen}
+use Rattle.redo_disk.specs.{Seen}
 use Rattle.redo_disk.specs.declared.error.DevError.{DevError}
-use Rattle.redo_drive.specs.Turning.{code_in}
-use Rattle.model_core.specs.Hands.{GivesFailed, StoresFailed}
+use Rattle.redo_drive.specs.{code_in}
 use Rattle.redo_rule.specs.Failing.{CodeHasCause}
 use Rattle.redo_rule.specs.Mine.{heard_of, number_of}
 use Rattle.redo_rule.specs.Plays.{Shown}

@@ -4,9 +4,8 @@ use lib.ListN.{get_elem?}
 use mathlib.Core.Option.{some}
 use Rattle.atomic_table.specs.Seated.{TableId}
 use Rattle.atomic_table.specs.declared.shared.Seat.{Seat}
-use Rattle.model_core.specs.Actors as model
-use Rattle.model_core.specs.{word_count}
-use Rattle.model_core.specs.Hands.{HoldsNothing}
+use Rattle.model_core.specs.States as model
+use Rattle.model_core.specs.{word_count, HoldsNothing}
 use Rattle.redo_rule.specs.OwnSide.{HasNoWork}
 use Rattle.redo_rule.specs.declared.law.Keeping.{Keeping}
 use Rattle.redo_rule.specs.declared.law.Numbered.{Numbered}

@@ -2,7 +2,7 @@
 use Rattle.std.specs.Prelude.{Option, Some, ℕ, ◌≡◌, ◌≤◌, ◌⊎◌}
 use Rattle.model_base.specs.{HasRisen}
 use Rattle.model_core.specs.{archive_device_code, data_device_code, log_device_code, no_memory_code}
-use Rattle.redo_disk.specs.Seen.{Seen}
+use Rattle.redo_disk.specs.{Seen}
 use Rattle.redo_disk.specs.declared.error.DevError.{DevError}
 use Rattle.redo_disk.specs.declared.error.DevError.TheVariants.{Failed, NoMemory}
 use Rattle.redo_logdev.specs.Part as log

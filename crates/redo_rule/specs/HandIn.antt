@@ -4,7 +4,7 @@ use Rattle.atomic_table.specs.Seated.{TableId}
 use Rattle.atomic_table.specs.Table.{Me}
 use Rattle.atomic_table.specs.declared.shared.Seat.{Seat}
 use Rattle.model_core.specs.{Line, line_of, UserState, word_count}
-use Rattle.model_core.specs.Actors as model
+use Rattle.model_core.specs.States as model
 use Rattle.model_core.specs.declared.steps.UserStep.TheVariants as user_step
 use Rattle.model_logcore.specs.{lengths}
 use Rattle.model_script.specs.{group_of, IsScriptLine, LineFits}

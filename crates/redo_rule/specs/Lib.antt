@@ -14,6 +14,7 @@ pub mod Places
 pub mod Plays
 pub mod Reached
 pub mod Readers
+pub mod Reading
 pub mod Ruled
 pub mod Seating
 pub mod Seats

@@ -3,8 +3,7 @@ use Rattle.std.specs.Prelude.{List, ℕ, ◌*◌, ◌+◌, ◌<◌, ◌≤◌}
 use Rattle.std.specs.List.{AllByRecursion}
 use Rattle.model_base.specs.declared.limits.TheConstants.{LSN_LIMIT}
 use Rattle.model_base.specs.declared.shape.Shape.{Shape}
-use Rattle.model_core.specs.{lsn}
-use Rattle.model_core.specs.Setup.{Setup}
+use Rattle.model_core.specs.{lsn, Setup}
 use Rattle.model_logcore.specs.{lengths}
 use Rattle.model_script.specs.{IsScriptLine, LineFits}
 use Rattle.model_script.specs.declared.script.ScriptLine.{ScriptLine}

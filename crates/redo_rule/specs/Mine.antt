@@ -2,15 +2,14 @@
 use Rattle.std.specs.Prelude.{List, None, Option, [], ℕ, ◌++◌, ◌∷◌, ◌≡◌, ◌⊎◌}
 use Rattle.atomic_table.specs.Seated.{TableId}
 use Rattle.atomic_table.specs.declared.shared.Seat.{Seat}
-use Rattle.model_core.specs.Actors as model
-use Rattle.model_core.specs.{filled, Given, next, step_of, took, word_count}
+use Rattle.model_core.specs.States as model
+use Rattle.model_core.specs.{filled, Given, next, step_of, took, word_count, hand}
 use Rattle.model_core.specs.declared.ops.Answer.{Answer}
 use Rattle.model_core.specs.declared.ops.Answer.TheVariants as answer
 use Rattle.model_core.specs.declared.ops.Op.TheVariants as op
 use Rattle.model_core.specs.declared.ops.Step.{Step}
-use Rattle.redo_disk.specs.Seen.{Seen}
-use Rattle.model_core.specs.Hands.{hand}
-use Rattle.redo_drive.specs.Receiving.{follower_of, HasGot, IsSameFollower}
+use Rattle.redo_disk.specs.{Seen}
+use Rattle.redo_drive.specs.{follower_of, HasGot, IsSameFollower}
 use Rattle.redo_drive.specs.declared.actor.Actor.{Actor}
 use Rattle.redo_rule.specs.Handing.{nothing}
 use Rattle.redo_rule.specs.Plays.{Carries, MayGo, Shown}
@@ -39,7 +38,7 @@ abbrev pub heard_of : {L D : Type 0} → View L D → Heard
 heard_of v = heard_in v.seats
 
 -- THE SEAT OF AN ACTOR, LATER. It keeps its number, and what it knows of its table and its words; the groups that it has heard since, the
--- actor's receiver got; and it has appended no fewer blocks.
+-- actor's receiver got; it has appended no fewer blocks; and no page was read in it.
 pub record IsSameSeat {L D R : Type 0} (stands : R → List Given → Type 0) (v : View L D) (a : Actor R) (w : View L D) (b : Actor R) : Type 0 where
   pub about : w.about ≡ v.about
   pub number : number_of w ≡ number_of v
@@ -50,6 +49,7 @@ pub record IsSameSeat {L D R : Type 0} (stands : R → List Given → Type 0) (v
   pub appended : List Block
   pub blocks : (heard_of w).blocks ≡ (heard_of v).blocks ++ appended
   pub got : HasGot stands (follower_of a) since (follower_of b)
+  pub reads : (heard_of w).reads ≡ (heard_of v).reads
 
 -- THE SEAT IS AT THIS TABLE, its view is the actor's state, it has the slot that the actor holds, and the actor may go on. It
 -- plays by its own program alone.

@@ -3,11 +3,11 @@ use Rattle.std.specs.Prelude.{List, ◌≡◌}
 use Rattle.atomic_table.specs.Seated.{TableId}
 use Rattle.atomic_table.specs.declared.shared.Seat.{Seat}
 use Rattle.model_core.specs.{Given, next}
-use Rattle.model_core.specs.Actors as model
+use Rattle.model_core.specs.States as model
 use Rattle.model_core.specs.declared.ops.Op.{Op}
 use Rattle.model_core.specs.declared.ops.Step.{Step}
-use Rattle.redo_disk.specs.Seen.{Seen}
-use Rattle.redo_drive.specs.Views.{view_of}
+use Rattle.redo_disk.specs.{Seen}
+use Rattle.redo_drive.specs.{view_of}
 use Rattle.redo_drive.specs.declared.actor.Actor.{Actor}
 use Rattle.redo_rule.specs.Mine.{HasPlayed, IsSameSeat}
 use Rattle.redo_rule.specs.Seating.{IsSeatOf}

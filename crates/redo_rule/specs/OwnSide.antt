@@ -2,12 +2,9 @@
 use Rattle.std.specs.Prelude.{List, None, Option, Some, false, length, ℕ, ◌+◌, ◌≡◌, ◌≤◌}
 use lib.ListN.{get_elem?}
 use mathlib.Core.Option.{some}
-use Rattle.model_core.specs.{UserState}
-use Rattle.model_core.specs.Actors as model
-use Rattle.model_core.specs.LogSide.{LogSide}
-use Rattle.model_own.specs.OwnTurn.{all_actors}
-use Rattle.model_own.specs.OwnWrites.{LogWork, OwnUser}
-use Rattle.model_own.specs.ErrandFits.{has_work}
+use Rattle.model_core.specs.{UserState, LogSide}
+use Rattle.model_core.specs.States as model
+use Rattle.model_own.specs.{all_actors, LogWork, OwnUser, has_work}
 use Rattle.model_ownrun.specs.OwnRunning.{Errands}
 use Rattle.redo_logdev.specs.Part as log
 use Rattle.redo_rule.specs.declared.law.Desk.{Desk}

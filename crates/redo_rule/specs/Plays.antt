@@ -1,13 +1,12 @@
 -- What each step of the table tells its seat: the actor's state took an answer, and what it may do next.
-use Rattle.std.specs.Prelude.{Bool, List, None, Option, Some, [], cond, false, length, map, true, suc, zero, ℕ, ◌%◌, ◌++◌, ◌+◌, ◌∷◌, ◌≡◌, ◌≢◌, is_some}
+use Rattle.std.specs.Prelude.{Bool, List, None, Option, Some, [], cond, false, length, map, true, suc, zero, ℕ, ◌%◌, ◌++◌, ◌+◌, ◌∷◌, ◌≡◌, ◌≢◌, is_some, ◌<◌}
 use lib.ListN.{get_elem?}
 use mathlib.Core.Option.{some}
 use Rattle.atomic_table.specs.Table.{Me, rest}
-use Rattle.model_core.specs.{archives, filled, Filling, Fills, lent, next, oldest_end, OpWords, took, UserState}
-use Rattle.model_core.specs.Actors as model
-use Rattle.model_core.specs.AnswerFits.{AnswerFits}
-use Rattle.model_core.specs.Turn.{Turn}
-use Rattle.model_core.specs.declared.limits.TheConstants.{FLUSH_LISTS}
+use Rattle.model_core.specs.{archives, filled, Filling, Fills, lent, next, oldest_end, OpWords, took, UserState, Each, oldest_of, AnswerFits, GivesFailed, hand, IsFreeToCheck}
+use Rattle.model_core.specs.States as model
+use Rattle.model_core.specs.Program.{Turn}
+use Rattle.model_core.specs.declared.limits.TheConstants.{FLUSH_LISTS, CLOSED_LINKS}
 use Rattle.model_core.specs.declared.ops.Answer.{Answer}
 use Rattle.model_core.specs.declared.ops.Answer.TheVariants as answer
 use Rattle.model_core.specs.declared.ops.Op.{Op}
@@ -16,19 +15,13 @@ use Rattle.model_core.specs.declared.ops.Step.{Step}
 use Rattle.model_core.specs.declared.steps.UserStep.TheVariants as user_step
 use Rattle.model_core.specs.declared.words.Layout.{Layout}
 use Rattle.redo_archiver.specs.{append_answer}
-use Rattle.redo_disk.specs.Seen.{Seen}
+use Rattle.redo_disk.specs.{Seen}
 use Rattle.redo_disk.specs.declared.error.DevError.{DevError}
 use Rattle.redo_flushlist.specs.{Listing, without_page}
-use Rattle.redo_drive.specs.Failures.{call_answer}
-use Rattle.redo_drive.specs.Lists.{listed_of}
-use Rattle.redo_drive.specs.Playing.{DataReady, HasWholePages, LogReady, RunOf, run_data_side, run_log_side, told_by}
-use Rattle.redo_drive.specs.Running.{groups_of, RunsWith}
-use Rattle.redo_drive.specs.Turning.{core_of}
-use Rattle.redo_drive.specs.Receiving.{handed_by, MarkFits}
+use Rattle.redo_drive.specs.{call_answer, listed_of, DataReady, HasWholePages, LogReady, RunOf, run_data_side, run_log_side, told_by, groups_of, RunsWith, core_of, handed_by, MarkFits}
 use Rattle.redo_drive.specs.Reserved.{HasGroups}
 use Rattle.redo_drive.specs.declared.device.Device.TheVariants.{Data, Log}
 use Rattle.redo_drive.specs.declared.parts.Parts.{Parts}
-use Rattle.model_core.specs.Hands.{GivesFailed, hand, IsFreeToCheck}
 use Rattle.redo_rule.specs.Handing.{appended_by, with_more}
 use Rattle.redo_rule.specs.Ruled.{IsRunAbout}
 use Rattle.redo_rule.specs.declared.law.About.{About}
@@ -43,9 +36,6 @@ use Rattle.redo_rule.specs.declared.law.View.{View}
 use Rattle.redo_store.specs.Part as store
 use Rattle.redo_words.specs.{Lends}
 use Rattle.redo_words.specs.declared.lent.Lent.{Lent}
-use Rattle.model_core.specs.{Each, oldest_of}
-use Rattle.model_core.specs.declared.limits.TheConstants.{CLOSED_LINKS}
-use Rattle.std.specs.Prelude.{◌<◌}
 
 -- a seat's actor after it, with what the turn put into it, and all that it has handed on then
 abbrev pub behind : Numbered → Filling → Answer → Numbered

@@ -2,7 +2,7 @@
 use Rattle.std.specs.Prelude.{List, ℕ, ◌<◌, ◌≡◌}
 use lib.ListN.{get_elem?}
 use mathlib.Core.Option.{some}
-use Rattle.model_core.specs.Actors as model
+use Rattle.model_core.specs.States as model
 use Rattle.model_logcore.specs.{HasMetFailure}
 use Rattle.model_running.specs.Watermarks.{HasMarksWithin}
 use Rattle.redo_drive.specs.declared.closed.Closed.{Closed}

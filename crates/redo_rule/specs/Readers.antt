@@ -1,13 +1,12 @@
 -- What a reader of the log makes of what it reads, and of giving the log part back.
 use Rattle.std.specs.Prelude.{List, None, ℕ, ◌≡◌}
 use Rattle.model_core.specs.{Given, next}
-use Rattle.model_core.specs.Actors as model
+use Rattle.model_core.specs.States as model
 use Rattle.model_core.specs.declared.ops.Answer.TheVariants as answer
 use Rattle.model_core.specs.declared.ops.Op.TheVariants as op
 use Rattle.model_core.specs.declared.ops.Step.{Step}
 use Rattle.redo_archiver.specs.Lending as archiving
-use Rattle.redo_drive.specs.Receiving.{filling_of, HasTaken}
-use Rattle.redo_drive.specs.Views.{view_of}
+use Rattle.redo_drive.specs.{filling_of, HasTaken, view_of}
 use Rattle.redo_drive.specs.declared.actor.Actor.{Actor}
 use Rattle.redo_drive.specs.declared.actor.Actor.TheVariants as own
 use Rattle.redo_follow.specs.Lending.{with_block}

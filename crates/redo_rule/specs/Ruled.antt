@@ -4,26 +4,21 @@ use Rattle.std.specs.Prelude.{Bool, IfSome, List, None, Option, Some, [], cond, 
 use lib.ListN.{get_elem?}
 use mathlib.Core.Option.{some}
 use Rattle.atomic_table.specs.Table.{State}
-use Rattle.model_own.specs.ErrandFits.{has_work}
+use Rattle.model_own.specs.{has_work}
 use Rattle.model_own.specs.declared.errand.ErrandStep.TheVariants as errand_step
-use Rattle.model_core.specs.Actors as model
+use Rattle.model_core.specs.States as model
 use Rattle.model_script.specs.declared.script.ScriptLine.{ScriptLine}
 use Rattle.model_theorem.specs.{IsStart}
-use Rattle.model_store.specs.Reading.{Reading}
-use Rattle.redo_disk.specs.{Call}
-use Rattle.redo_disk.specs.Seen.{Seen}
+use Rattle.model_store.specs.{Reading}
+use Rattle.redo_disk.specs.{Call, Seen}
 use Rattle.redo_drive.specs.Beginning.{HaveBegun, IsRunWith}
-use Rattle.redo_drive.specs.Startable.{HasReading}
-use Rattle.redo_drive.specs.Calls.{CallsOn}
-use Rattle.redo_drive.specs.Lists.{AreLists, listing_at}
+use Rattle.redo_drive.specs.{HasReading, CallsOn, AreLists, listing_at, RunOf, run_log_side, RunsWith}
 use Rattle.redo_drive.specs.LiveActors.{live_actors}
-use Rattle.redo_drive.specs.Playing.{RunOf, run_log_side}
-use Rattle.redo_drive.specs.Running.{RunsWith}
 use Rattle.redo_drive.specs.Setups.{seated_actors}
 use Rattle.redo_drive.specs.declared.parts.Parts.{Parts}
 use Rattle.redo_words.specs.{shape_layout}
-use Rattle.model_core.specs.Hands.{GivesFailed, hand, IsFreeToCheck}
-use Rattle.redo_rule.specs.Handing.{HaveHandedOn, HaveLoaded, nothing}
+use Rattle.model_core.specs.{GivesFailed, hand, IsFreeToCheck}
+use Rattle.redo_rule.specs.Handing.{HaveHandedOn, HaveLoaded, HaveRead, nothing}
 use Rattle.redo_rule.specs.Lively.{HasRoom}
 use Rattle.redo_rule.specs.OwnSide.{Beside, desk_with, HasItsWork, SitsAs}
 use Rattle.redo_rule.specs.Places.{HasTurn, turn_word}
@@ -144,6 +139,7 @@ pub record Ruled {L D : Type 0} (log_seen : L → Seen) (log_gives : L → Call 
   pub own : HasItsWork (run_log_side log_seen data_seen run) parts.log beside.own actors
   pub runs : RunsWith log_seen data_seen run about.archive parts actors
   pub hears : HaveHandedOn (run_log_side log_seen data_seen run) run.setup.base parts.log heard actors runs.running.log_ghost.log
+  pub reads : HaveRead run.setup parts.words.words heard runs.running.log_ghost.log
   pub loaded : HaveLoaded parts.words.words actors
   pub count : length actors ≡ length (starts_about about)
   pub log_calls : CallsOn log_gives about.opened.value.log.dev about.opened.value.log.failed parts.log.dev parts.log.failed

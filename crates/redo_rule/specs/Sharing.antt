@@ -5,8 +5,7 @@ use mathlib.Core.Option.{some}
 use Rattle.atomic_table.specs.declared.shared.Seat.{Seat}
 use Rattle.model_core.specs.{Given}
 use Rattle.model_core.specs.declared.words.Layout.{Layout}
-use Rattle.redo_drive.specs.Lists.{listing_at, Listings}
-use Rattle.redo_drive.specs.Receiving.{follower_of, HasGot, IsSameFollower}
+use Rattle.redo_drive.specs.{listing_at, Listings, follower_of, HasGot, IsSameFollower}
 use Rattle.redo_drive.specs.declared.actor.Actor.{Actor}
 use Rattle.redo_rule.specs.Handing.{nothing}
 use Rattle.redo_rule.specs.Mine.{heard_of}

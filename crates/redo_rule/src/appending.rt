@@ -2,7 +2,7 @@
 ghost use Rattle.std.specs.Prelude.{◌++◌, ◌≡◌};
 ghost use Rattle.model_core.specs.{took};
 ghost use Rattle.redo_archiver.specs.{append_answer};
-ghost use Rattle.redo_drive.specs.Views.{view_of};
+ghost use Rattle.redo_drive.specs.{view_of};
 ghost use Rattle.redo_rule.specs.Handing.{appended_by};
 ghost use Rattle.redo_rule.specs.Mine.{HasPlayed, heard_of, IsSameSeat};
 ghost use Rattle.redo_rule.specs.Seating.{Appends, IsSeatOf};

@@ -1,6 +1,6 @@
 // One Op of one actor, on the shared table: the writing of a batch.
 ghost use Rattle.model_core.specs.declared.ops.Op.TheVariants as op;
-ghost use Rattle.redo_drive.specs.Views.{view_of};
+ghost use Rattle.redo_drive.specs.{view_of};
 ghost use Rattle.redo_rule.specs.Ops.{HasPlayedOp, MayPlay};
 
 use crate::law::{DATA_SLOT, Ring, Seat};

@@ -1,13 +1,13 @@
 // A store after its run.
-ghost use Rattle.std.specs.Prelude.{◌<◌, ◌≡◌, slice_index};
+ghost use Rattle.std.specs.Prelude.{[], ◌∷◌, ◌<◌, ◌≡◌, slice_index};
 ghost use Rattle.std.specs.Slots.{IsFull, slots_items, slots_len};
 ghost use Rattle.model_core.specs.{index};
-ghost use Rattle.redo_rule.specs.Closing.{EndsRun, LeavesTable};
+ghost use Rattle.redo_rule.specs.Closing.{EmptiesTable, EndsRun, KeepsLists, LeavesTable};
 ghost use Rattle.redo_rule.specs.Seats.{no_pages};
 ghost use Rattle.redo_rule.specs.Cutting.{IsFirst};
 
 use crate::law::{Board, DATA_SLOT, Desk, LOG_SLOT, Seat, Slot};
-use crate::slots::{data_in, desk_in, drop_list};
+use crate::slots::{await_list, data_in, desk_in, drop_list};
 use atomic_table::Closed as ClosedTable;
 use model_report::Marks;
 use redo_disk::Sectors;
@@ -17,6 +17,7 @@ use redo_ownuser::LogWork;
 use redo_store::DataPart;
 use redo_words::{Layout, Word, number_of};
 use std::alloc::Global;
+use std::sync::Wait;
 
 /// The words of a store without pages.
 const NO_PAGES: Layout = Layout {
@@ -42,11 +43,16 @@ fn word_in<L: Sectors, D: Sectors>(closed: &ClosedTable<Slot<L, D>, Global>, wor
     closed.word(number_of(NO_PAGES, word) as usize)
 }
 
-/// Closes a table, given the seat that knows all actors, of which none holds anything.
-pub fn close_table<L: Sectors, D: Sectors>(board: Board<L, D>, first: Seat<L, D>) -> Left<L, D>
+/// What a table leaves, and what lies in the slots of its flush lists, given the seat that knows who may hold the log part or the
+/// data part, of whom none does.
+fn empty_table<L: Sectors, D: Sectors>(
+    board: Board<L, D>,
+    first: Seat<L, D>,
+) -> (Left<L, D>, (Slot<L, D>, Slot<L, D>, Slot<L, D>, Slot<L, D>))
     requires first { IsFirst board.shared.table_id first }
     requires ends { EndsRun L.seen L.gives D.seen D.gives board.shared.key first }
-    ensures { LeavesTable L.seen L.gives D.seen D.gives board.shared.key first result }
+    ensures { EmptiesTable L.seen L.gives D.seen D.gives board.shared.key first result.0
+        (result.1.0 ∷ result.1.1 ∷ result.1.2 ∷ result.1.3 ∷ []) }
 {
     let mut closed = board.close_with(first);
     let marks = Marks {
@@ -63,20 +69,53 @@ pub fn close_table<L: Sectors, D: Sectors>(board: Board<L, D>, first: Seat<L, D>
     let last_list = closed.take(LOG_SLOT + 4);
     let data = closed.take(DATA_SLOT);
     closed.free();
-    drop_list(first_list);
-    drop_list(second_list);
-    drop_list(third_list);
-    drop_list(last_list);
     let Desk {
         part,
         block: _,
         work,
     } = desk_in(log);
-    Left {
+    let left = Left {
         marks,
         log: part,
         store: data_in(data),
         code,
         work,
-    }
+    };
+    (left, (first_list, second_list, third_list, last_list))
+}
+
+/// Closes a table, given the seat that knows all actors, of which none holds anything.
+pub fn close_table<L: Sectors, D: Sectors>(board: Board<L, D>, first: Seat<L, D>) -> Left<L, D>
+    requires first { IsFirst board.shared.table_id first }
+    requires ends { EndsRun L.seen L.gives D.seen D.gives board.shared.key first }
+    requires lists { KeepsLists L.seen L.gives D.seen D.gives board.shared.key first }
+    ensures { LeavesTable L.seen L.gives D.seen D.gives board.shared.key first result }
+{
+    let (left, lists) = empty_table(board, first);
+    let (first_list, second_list, third_list, last_list) = lists;
+    drop_list(first_list);
+    drop_list(second_list);
+    drop_list(third_list);
+    drop_list(last_list);
+    left
+}
+
+/// Closes a table some of whose seats were dropped, given the seat that knows who may hold the log part or the data part, of
+/// whom none does. It waits for ever where a flush list was dropped with its seat.
+pub fn close_known<T: Wait, L: Sectors, D: Sectors>(
+    rt: &T,
+    board: Board<L, D>,
+    first: Seat<L, D>,
+) -> Left<L, D>
+    requires first { IsFirst board.shared.table_id first }
+    requires ends { EndsRun L.seen L.gives D.seen D.gives board.shared.key first }
+    ensures { LeavesTable L.seen L.gives D.seen D.gives board.shared.key first result }
+{
+    let (left, lists) = empty_table(board, first);
+    let (first_list, second_list, third_list, last_list) = lists;
+    await_list(rt, first_list);
+    await_list(rt, second_list);
+    await_list(rt, third_list);
+    await_list(rt, last_list);
+    left
 }

@@ -1,10 +1,9 @@
 // One Op of one actor, on the shared table: the log part.
 ghost use Rattle.std.specs.Prelude.{None};
-ghost use Rattle.model_core.specs.AnswerFits.{AnswerFits};
+ghost use Rattle.model_core.specs.{AnswerFits};
 ghost use Rattle.model_core.specs.declared.ops.Answer.TheVariants as answer;
 ghost use Rattle.model_core.specs.declared.ops.Op.TheVariants as op;
-ghost use Rattle.redo_drive.specs.Receiving.{MarkFits};
-ghost use Rattle.redo_drive.specs.Views.{view_of};
+ghost use Rattle.redo_drive.specs.{MarkFits, view_of};
 ghost use Rattle.redo_rule.specs.Ops.{HasPlayedOp, MayPlay};
 ghost use Rattle.redo_rule.specs.Readers.{HasBlock, HasGivenBack, ReadsBlock};
 

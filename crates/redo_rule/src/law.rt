@@ -1,6 +1,7 @@
 // The rule of the table, and what a seat knows.
 use atomic_table::{Shared, Table, TableRule};
 use model_own::ErrandStep;
+use model_reads::{Glance, PageRead};
 use model_script::Script;
 use redo_disk::Sectors;
 use redo_drive::Actor;
@@ -51,7 +52,7 @@ pub struct Viewed {
 
 impl Model for Viewed {
     ghost use Rattle.model_core.specs.{Actor};
-    ghost use Rattle.redo_drive.specs.Views.{view_of};
+    ghost use Rattle.redo_drive.specs.History.{view_of};
 
     ghost Value = { Actor };
 
@@ -88,12 +89,14 @@ pub struct Block {
     pub bytes: LinkedList<u8>,
 }
 
-/// What an actor has handed on: a follower groups, to its receiver, and the archiver blocks, to its archive. No value of it is
-/// made.
+/// What an actor has handed on: a follower groups, to its receiver, and the archiver blocks, to its archive; and which pages
+/// were read in its seat, with the one that is being read. No value of it is made.
 #[derive(Drop)]
 pub struct Heard {
     pub groups: Groups,
     pub blocks: LinkedList<Block>,
+    pub reads: LinkedList<PageRead>,
+    pub glance: Option<Glance>,
 }
 
 /// Of a user that writes for itself: where it is on its errand, and whether it has been on one for its condition.

@@ -2,7 +2,7 @@
 ghost use Rattle.std.specs.Prelude.{[], ◌++◌, ◌<◌, ◌∷◌, ◌≡◌, ◌≤◌, IfErr, IfOk, length, replicate, vec_capacity, vec_len};
 ghost use Rattle.model_base.specs.declared.limits.TheConstants.{BLOCK_SIZE};
 ghost use Rattle.atomic_table.specs.Table.{opening};
-ghost use Rattle.redo_drive.specs.Lists.{AreLists, Listings};
+ghost use Rattle.redo_drive.specs.{AreLists, Listings};
 ghost use Rattle.redo_rule.specs.Ruled.{Ruled, first_view};
 ghost use Rattle.redo_rule.specs.Sharing.{AreLaid, laid};
 ghost use Rattle.redo_rule.specs.declared.law.Desk.{Desk};

@@ -2,7 +2,7 @@
 ghost use Rattle.std.specs.Prelude.{suc, ◌+◌, ◌<◌, ◌≡◌};
 ghost use Rattle.model_core.specs.declared.limits.TheConstants.{FLUSH_LISTS};
 ghost use Rattle.model_core.specs.declared.ops.Op.TheVariants as op;
-ghost use Rattle.redo_drive.specs.Views.{view_of};
+ghost use Rattle.redo_drive.specs.{view_of};
 ghost use Rattle.redo_rule.specs.declared.law.TheConstants.{LOG_TURN};
 ghost use Rattle.redo_rule.specs.Ops.{HasPlayedOp, MayPlay};
 

@@ -1,7 +1,7 @@
 // One Op of one actor, on the shared table.
 ghost use Rattle.std.specs.Prelude.{◌≡◌};
 ghost use Rattle.model_core.specs.{next};
-ghost use Rattle.redo_drive.specs.Views.{view_of};
+ghost use Rattle.redo_drive.specs.{view_of};
 ghost use Rattle.redo_rule.specs.Causes.{EndsSo};
 ghost use Rattle.redo_rule.specs.Mine.{HasGone, IsSameSeat};
 ghost use Rattle.redo_rule.specs.Ops.{HasPlayedOp, MayPlay};

@@ -1,8 +1,7 @@
 // Whether an actor holds anything. One that has a seat is free wherever it checks for a failure.
 ghost use Rattle.std.specs.Prelude.{false, true, ◌≡◌};
-ghost use Rattle.model_core.specs.{next};
-ghost use Rattle.redo_drive.specs.Views.{view_of};
-ghost use Rattle.model_core.specs.Hands.{HoldsNothing, IsFreeOp, IsFreeToCheck};
+ghost use Rattle.model_core.specs.{next, HoldsNothing, IsFreeOp, IsFreeToCheck};
+ghost use Rattle.redo_drive.specs.{view_of};
 
 use redo_drive::Actor;
 use redo_follow::Receiver;

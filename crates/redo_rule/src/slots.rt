@@ -1,6 +1,6 @@
 // Calls of what lies in a slot.
 ghost use Rattle.std.specs.Prelude.{◌≡◌, ℕ, None, is_some};
-ghost use Rattle.model_core.specs.Actors as model;
+ghost use Rattle.model_core.specs.States as model;
 ghost use Rattle.model_base.specs.declared.shape.Shape.{Shape};
 ghost use Rattle.model_core.specs.{DataServed, KeptPage, LogServed};
 ghost use Rattle.redo_drive.specs.DataPartSide as data_part;
@@ -8,10 +8,9 @@ ghost use Rattle.model_core.specs.declared.ops.Op.TheVariants as op;
 ghost use Rattle.model_parts.specs.{MayBeNext};
 ghost use Rattle.redo_logdev.specs.{MayRead};
 ghost use Rattle.redo_logdev.specs.Part as log_dev;
-ghost use Rattle.redo_drive.specs.Devices.{call_code};
+ghost use Rattle.redo_drive.specs.{call_code, HasWholePages, MayBatchLent, MayWriteLent};
 ghost use Rattle.redo_drive.specs.declared.device.Device.TheVariants as device;
 ghost use Rattle.redo_drive.specs.LogPartSide as log_part;
-ghost use Rattle.redo_drive.specs.Playing.{HasWholePages, MayBatchLent, MayWriteLent};
 ghost use Rattle.redo_rule.specs.Plays.{ListFits, list_behind, list_said, taking};
 ghost use Rattle.redo_rule.specs.Slots.{IsBatched, IsCalled, IsData, IsLog, IsPages, block_of};
 ghost use Rattle.redo_rule.specs.declared.law.Desk.{Desk};
@@ -23,6 +22,7 @@ use redo_disk::{DevError, Sectors};
 use redo_drive::{call_batch, call_checkpoint, call_read, call_sync, call_write};
 use redo_store::DataPart;
 use redo_words::{Answer, Lent};
+use std::sync::Wait;
 
 /// The answer to whoever has taken the log part.
 pub fn taken_answer<L: Sectors, D: Sectors>(slot: &Slot<L, D>) -> Answer
@@ -187,5 +187,17 @@ pub(crate) fn drop_list<L: Sectors, D: Sectors>(slot: Slot<L, D>)
         Slot::Log(_part) => unreachable!(),
         Slot::Pages(_list) => {}
         Slot::Data(_part) => unreachable!(),
+    }
+}
+
+/// Lets the flush list go that lies in a slot. Where none does it waits for ever: whoever held the list was dropped.
+pub(crate) fn await_list<T: Wait, L: Sectors, D: Sectors>(rt: &T, slot: Slot<L, D>) {
+    match slot {
+        Slot::Pages(_list) => {}
+        Slot::Log(_) | Slot::Data(_) => {
+            // a seat that was dropped keeps its slot out, and what then stands in the slot is any value
+            for _ in rt.forever() {}
+            unreachable!()
+        }
     }
 }

@@ -1,7 +1,7 @@
 // One Op of one actor, on the shared table: the words.
 ghost use Rattle.std.specs.Prelude.{◌≡◌};
 ghost use Rattle.model_core.specs.declared.ops.Op.TheVariants as op;
-ghost use Rattle.redo_drive.specs.Views.{view_of};
+ghost use Rattle.redo_drive.specs.{view_of};
 ghost use Rattle.redo_rule.specs.Ops.{HasPlayedOp, MayPlay};
 
 use crate::law::{Ring, Seat};

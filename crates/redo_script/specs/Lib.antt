@@ -1,5 +1,5 @@
 pub mod Cut
 pub mod Fault
-pub mod Progress
 pub mod Judged
+pub mod Progress
 pub use Rattle.redo_script.specs.Judged.{IsUnfitLine, IsUnfitScript}

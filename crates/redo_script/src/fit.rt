@@ -8,6 +8,7 @@ ghost use Rattle.redo_script.specs.Judged.{AreUnfitLines, IsUnfitLine, IsUnfitSc
 use crate::Unfit;
 use crate::group::group_of;
 use model_base::{BLOCK_SIZE, LSN_LIMIT, MAX_GROUP, PAGE_TRAILER, Shape, USER_START};
+use model_log::Group;
 use model_script::{Item, MARGIN, MAX_USERS, Misfit, Quantity, Script, ScriptLine};
 use redo_lsn::{block_of, lsn_of, sn_of};
 use redo_record::Length;
@@ -93,23 +94,25 @@ fn items_misfit(shape: &Shape, items: &[Item]) -> Option<Misfit>
     None
 }
 
-/// How long the text of a line's group is. A text whose length doesn't fit 64 bits has no room in memory.
-fn length_of(alloc: Global, shape: &Shape, line: &ScriptLine) -> Result<u64, Unfit>
-    ensures length { IfOk result (λ len. len ≡ group_length (group_of shape.now.space line.now)) }
+/// A line's group, and how long its text is. A text whose length doesn't fit 64 bits has no room in memory.
+fn measured(alloc: Global, shape: &Shape, line: &ScriptLine) -> Result<(Group, u64), Unfit>
+    ensures group { IfOk result (λ made. made.0 ≡ group_of shape.now.space line.now) }
+    ensures length { IfOk result (λ made. made.1 ≡ group_length (group_of shape.now.space line.now)) }
     ensures memory { IfErr result (λ unfit. unfit ≡ Unfit.NoMemory) }
 {
     let group = group_of(alloc, line, shape.space)?;
     match group.checked_length() {
-        Some(length) => Ok(length),
+        Some(length) => Ok((group, length)),
         None => Err(Unfit::NoMemory),
     }
 }
 
-/// Judges a line, and says how long the text of its group is.
+/// Judges a line, and makes its group, with how long the text of that is.
 #[tactic(auto, unfolding(model_script::specs::Fit::line_misfit))]
-pub fn judge_line(alloc: Global, shape: &Shape, line: &ScriptLine) -> Result<u64, Unfit>
+pub fn judge_line(alloc: Global, shape: &Shape, line: &ScriptLine) -> Result<(Group, u64), Unfit>
     requires limits { IsWithinLimits shape.now }
-    ensures length { IfOk result (λ len. len ≡ group_length (group_of shape.now.space line.now)) }
+    ensures group { IfOk result (λ made. made.0 ≡ group_of shape.now.space line.now) }
+    ensures length { IfOk result (λ made. made.1 ≡ group_length (group_of shape.now.space line.now)) }
     ensures fits { OnOk result (line_misfit shape.now line.now ≡ None) }
     ensures unfit { IfErr result (IsUnfitLine shape.now line.now) }
 {
@@ -119,13 +122,13 @@ pub fn judge_line(alloc: Global, shape: &Shape, line: &ScriptLine) -> Result<u64
     if let Some(misfit) = items_misfit(shape, line.items.0.as_slice()) {
         return Err(Unfit::Misfit(misfit));
     }
-    let length = match length_of(alloc, shape, line) {
-        Ok(length) => length,
+    let (group, length) = match measured(alloc, shape, line) {
+        Ok(made) => made,
         Err(unfit) => return Err(unfit),
     };
     match misfit_if(MAX_GROUP < length, Quantity::Group, length) {
         Some(misfit) => Err(Unfit::Misfit(misfit)),
-        None => Ok(length),
+        None => Ok((group, length)),
     }
 }
 
@@ -139,7 +142,7 @@ fn judge_lines(alloc: Global, shape: &Shape, lines: &[ScriptLine]) -> Result<u64
     let mut total: u64 = 0;
     for line in lines {
         match judge_line(alloc, shape, line) {
-            Ok(length) => match total.checked_add(length) {
+            Ok((_, length)) => match total.checked_add(length) {
                 Some(sum) => total = sum,
                 None => return Err(Unfit::NoMemory),
             },

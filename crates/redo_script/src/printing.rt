@@ -9,7 +9,7 @@ use model_script::{Item, ScriptLine};
 use std::alloc::{AllocError, Global};
 
 /// Writes the operation that writes a number of `width` bytes at the end of the text.
-#[tactic(auto, unfolding(model_script::specs::Spelling::item_text))]
+#[tactic(auto, unfolding(model_script::specs::Grammar::item_text))]
 pub fn push_number(
     text: &mut String,
     width: u32,
@@ -24,7 +24,7 @@ pub fn push_number(
 }
 
 /// Writes the operation that writes these bytes at the end of the text.
-#[tactic(auto, unfolding(model_script::specs::Spelling::item_text))]
+#[tactic(auto, unfolding(model_script::specs::Grammar::item_text))]
 pub fn push_string(
     alloc: Global,
     text: &mut String,
@@ -40,7 +40,7 @@ pub fn push_string(
 }
 
 /// Writes the operation that sets the user bytes of a page to 0 at the end of the text.
-#[tactic(auto, unfolding(model_script::specs::Spelling::item_text))]
+#[tactic(auto, unfolding(model_script::specs::Grammar::item_text))]
 pub fn push_init(text: &mut String, page: u32) -> Result<(), AllocError>
     ensures { OnOk result (string_bytes text.new ≡ string_bytes text.old ++ item_text (Init page)) }
 {
@@ -100,7 +100,7 @@ fn mode_name(mode: u32) -> &'static str
 }
 
 /// Writes the line at the end of the text, without a line feed.
-#[tactic(auto, unfolding(model_script::specs::Spelling::script_line_text))]
+#[tactic(auto, unfolding(model_script::specs::Grammar::script_line_text))]
 pub fn push_line(alloc: Global, text: &mut String, line: &ScriptLine) -> Result<(), AllocError>
     ensures { OnOk result
         (string_bytes text.new ≡ string_bytes text.old ++ script_line_text line.now) }

@@ -1,13 +1,11 @@
 -- What a run in threads leaves of its archive.
-use Rattle.std.proofs.Common.{List, None, Option, Some, [], arith, refl, slice_index, subst, sym, true, ℕ}
-use Rattle.std.proofs.Common.{◌∙◌, ◌∷◌, ◌≡◌, ◌≤◌}
+use Rattle.std.proofs.Common.{List, None, Option, Some, [], arith, refl, slice_index, subst, sym, true, ℕ, ◌∙◌, ◌∷◌, ◌≡◌, ◌≤◌}
 use Rattle.std.specs.List.{AllByRecursion}
 use lib.ListN.{get_elem?}
 use mathlib.Core.Option as maybe
 use Rattle.atomic_table.specs.declared.shared.Seat.{Seat}
-use Rattle.model_core.specs.Actors as model
-use Rattle.model_core.specs.LogSide.{LogSide}
-use Rattle.model_core.specs.{archives, Entry, flushed_at, Given, lsn, ReaderState}
+use Rattle.model_core.specs.States as model
+use Rattle.model_core.specs.{LogSide, archives, Entry, flushed_at, Given, lsn, ReaderState}
 use Rattle.model_log.specs.{IsDataLsn, IsRunOf}
 use Rattle.model_log.specs.declared.group.Whole.{Whole}
 use Rattle.model_running.proofs.Groups.{run_of_log}
@@ -15,16 +13,12 @@ use Rattle.model_running.specs.Histories.{AreWholesOf}
 use Rattle.model_running.specs.ReadHalf.{ArchiverHas}
 use Rattle.redo_archive.specs.Part.{Part}
 use Rattle.redo_archiver.specs.{IsFullBlock}
-use Rattle.redo_disk.specs.{Call}
-use Rattle.redo_disk.specs.Seen.{Seen}
+use Rattle.redo_disk.specs.{Call, Seen}
 use Rattle.redo_disk.specs.declared.error.DevError.{DevError}
 use Rattle.redo_drive.proofs.ArchiveGroups.{front_of}
 use Rattle.redo_drive.proofs.ArchiveLeft.{has_archived}
 use Rattle.redo_drive.proofs.ArchiveTurns.{flushed_place, flushed_word}
-use Rattle.redo_drive.specs.Archived.{HasArchived}
-use Rattle.redo_drive.specs.Archiving.{HasCome}
-use Rattle.redo_drive.specs.Playing.{run_log_side}
-use Rattle.redo_drive.specs.Views.{views_of}
+use Rattle.redo_drive.specs.{HasArchived, HasCome, run_log_side, views_of}
 use Rattle.redo_drive.specs.declared.actor.Actor.{Actor}
 use Rattle.redo_drive.specs.declared.closed.Closed.{Closed}
 use Rattle.redo_ownrule.specs.Leaving.{LeavesHeard}

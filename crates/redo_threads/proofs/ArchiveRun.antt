@@ -2,15 +2,12 @@
 use Rattle.std.proofs.Common.{Bool, List, None, Option, Some, ap, is_some, length, map, subst, sym, true, ◌∙◌, ◌≡◌}
 use Rattle.atomic_table.specs.Seated.{TableId}
 use Rattle.model_core.specs.{Given}
-use Rattle.model_own.specs.OwnWrites.{LogWork}
+use Rattle.model_own.specs.{LogWork}
 use Rattle.redo_archive.specs.Part.{Part}
 use Rattle.redo_archiver.specs.{append_code}
-use Rattle.redo_disk.specs.{Call}
-use Rattle.redo_disk.specs.Seen.{Seen}
+use Rattle.redo_disk.specs.{Call, Seen}
 use Rattle.redo_disk.specs.declared.error.DevError.{DevError}
-use Rattle.redo_drive.specs.Archived.{HaveArchived}
-use Rattle.redo_drive.specs.Startable.{IsNewArchive, MayBegin}
-use Rattle.redo_drive.specs.Views.{views_of}
+use Rattle.redo_drive.specs.{HaveArchived, IsNewArchive, MayBegin, views_of}
 use Rattle.redo_drive.specs.declared.actor.Actor.{Actor}
 use Rattle.redo_drive.specs.declared.closed.Closed.{Closed}
 use Rattle.redo_ownrule.specs.Leaving.{LeavesHeard}

@@ -4,20 +4,17 @@ use Rattle.std.specs.List.{AllByRecursion}
 use Rattle.atomic_table.specs.Seated.{TableId}
 use Rattle.atomic_table.specs.declared.shared.Seat.{Seat}
 use Rattle.model_core.proofs.Later.{took_later}
-use Rattle.model_core.specs.{Given, ReaderState, took}
-use Rattle.model_core.specs.Actors as model
-use Rattle.model_core.specs.Later.{IsSameActor}
+use Rattle.model_core.specs.{Given, ReaderState, took, IsSameActor}
+use Rattle.model_core.specs.States as model
 use Rattle.model_core.specs.declared.ops.Op.{Op}
 use Rattle.model_core.specs.declared.ops.Op.TheVariants as op
 use Rattle.model_core.specs.declared.ops.Step.{Step}
 use Rattle.model_running.specs.{IsNoAppend}
 use Rattle.redo_archive.specs.Part.{Part}
 use Rattle.redo_archiver.specs.{append_answer}
-use Rattle.redo_disk.specs.{Call}
-use Rattle.redo_disk.specs.Seen.{Seen}
+use Rattle.redo_disk.specs.{Call, Seen}
 use Rattle.redo_drive.proofs.ArchiveTurns.{one_reader}
-use Rattle.redo_drive.specs.Receiving.{follower_of, IsSameFollower}
-use Rattle.redo_drive.specs.Views.{view_of}
+use Rattle.redo_drive.specs.{follower_of, IsSameFollower, view_of}
 use Rattle.redo_drive.specs.declared.actor.Actor.{Actor}
 use Rattle.redo_drive.specs.declared.actor.Actor.TheVariants as own
 use Rattle.redo_ownrule.specs.Players.{actor_of, IsSamePlayer}

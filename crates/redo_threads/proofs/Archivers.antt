@@ -1,11 +1,10 @@
 -- The archive beside its archiver, through a turn of that.
-use Rattle.std.proofs.Common.{Bool, List, None, Option, Some, [], ap, arith, cond, false, refl, slice_index, subst, sym, true, ℕ, ⊎_elim}
-use Rattle.std.proofs.Common.{is_some, ◌++◌, ◌+◌, ◌∙◌, ◌∷◌, ◌≡◌, ◌≤◌}
+use Rattle.std.proofs.Common.{Bool, List, None, Option, Some, [], ap, arith, cond, false, refl, slice_index, subst, sym, true, ℕ, ⊎_elim, is_some, ◌++◌, ◌+◌, ◌∙◌, ◌∷◌, ◌≡◌, ◌≤◌}
 use Rattle.std.specs.List.{AllByRecursion}
 use native.Mathlib.Decide.{dec_le}
 use mathlib.Core.Option as maybe
 use Rattle.model_archive.specs.declared.marks.ArchMarks.{ArchMarks}
-use Rattle.model_core.specs.Actors as model
+use Rattle.model_core.specs.States as model
 use Rattle.model_core.specs.ReaderProgram.{Filling, reader_filled}
 use Rattle.model_core.specs.declared.ops.Answer.{Answer}
 use Rattle.model_core.specs.declared.ops.Op.TheVariants as op
@@ -22,16 +21,14 @@ use Rattle.model_running.proofs.Archiving.{took_reader}
 use Rattle.model_running.specs.{IsNoAppend}
 use Rattle.redo_archive.specs.Part.{Part, PartArchives}
 use Rattle.redo_archiver.proofs.Turning.{pace-turns}
-use Rattle.redo_archiver.specs.Archived.{appends_at, heard_at, RoundAt}
+use Rattle.redo_archiver.specs.Appending.{appends_at, heard_at, RoundAt}
 use Rattle.redo_archiver.specs.{append_answer, append_code, AppendsNothing, HearsFlushed, KeepsPace, marks_after}
-use Rattle.redo_disk.specs.{Call}
-use Rattle.redo_disk.specs.Seen.{Seen}
+use Rattle.redo_disk.specs.{Call, Seen}
 use Rattle.redo_disk.specs.declared.error.DevError.{DevError}
 use Rattle.redo_drive.proofs.ArchiveGroups.{risen_since}
 use Rattle.redo_drive.proofs.ArchiveTurns.{asked_then, flushed_place, one_reader, step_appends}
 use Rattle.redo_drive.proofs.CallsOn.{calls_then}
-use Rattle.redo_drive.specs.Archiving.{Appends, IsSameArchive}
-use Rattle.redo_drive.specs.Lists.{lists_of}
+use Rattle.redo_drive.specs.{Appends, IsSameArchive, lists_of}
 use Rattle.redo_rule.proofs.Loading.{Loads, reader_loads}
 use Rattle.redo_rule.proofs.Told.{fixed_run}
 use Rattle.redo_rule.specs.Handing.{appended_at, appended_by}

@@ -1,21 +1,18 @@
 -- What a run in threads owes and tells, of the store that was opened.
 use Rattle.std.proofs.Common.{Bool, List, Option, ap, length, refl, subst, sym, ℕ, ◌∙◌, ◌≡◌}
-use Rattle.model_core.specs.Actors as model
+use Rattle.model_core.specs.States as model
 use Rattle.model_core.specs.{Given}
 use Rattle.model_running.specs.Schedule.{HaveEnded}
 use Rattle.model_script.specs.declared.script.ScriptLine.{ScriptLine}
 use Rattle.redo_archive.specs.Part.{Part}
-use Rattle.redo_disk.specs.{Call}
-use Rattle.redo_disk.specs.Seen.{Seen}
+use Rattle.redo_disk.specs.{Call, Seen}
 use Rattle.redo_drive.proofs.LeftRun.{have_followed}
 use Rattle.redo_drive.specs.Drive.{Owes, ReadsToMarks}
 use Rattle.redo_drive.specs.Followed.{HaveFollowed}
-use Rattle.redo_drive.specs.Archived.{HaveArchived}
+use Rattle.redo_drive.specs.{HaveArchived, AreNewFollowers, views_of}
 use Rattle.redo_drive.specs.Leaving.{LeavesWith}
-use Rattle.redo_drive.specs.Making.{EndsWithReaders}
+use Rattle.redo_drive.specs.Begins.{EndsWithReaders}
 use Rattle.redo_drive.specs.Setups.{seated_actors}
-use Rattle.redo_drive.specs.Startable.{AreNewFollowers}
-use Rattle.redo_drive.specs.Views.{views_of}
 use Rattle.redo_drive.specs.declared.actor.Actor.{Actor}
 use Rattle.redo_drive.specs.declared.closed.Closed.{Closed}
 use Rattle.redo_follow.specs.Following.{Following}

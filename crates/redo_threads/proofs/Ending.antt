@@ -1,22 +1,18 @@
 -- Players that have come to their ends, and the actors that they leave.
-use Rattle.std.proofs.Common.{List, None, Option, Some, [], ap, arith, length, map, refl, set, slice_index, subst, suc}
-use Rattle.std.proofs.Common.{sym, zero, ℕ, ⊎_elim, ◌++◌, ◌+◌, ◌<◌, ◌∙◌, ◌∷◌, ◌≡◌, ◌≤◌}
+use Rattle.std.proofs.Common.{List, None, Option, Some, [], ap, arith, length, map, refl, set, slice_index, subst, suc, sym, zero, ℕ, ⊎_elim, ◌++◌, ◌+◌, ◌<◌, ◌∙◌, ◌∷◌, ◌≡◌, ◌≤◌}
 use lib.ListN.{get_elem?}
 use mathlib.Core.Option as maybe
 use Rattle.atomic_table.proofs.Lists.{at_set}
-use Rattle.model_core.specs.{Given}
-use Rattle.model_core.specs.Actors as model
+use Rattle.model_core.specs.{Given, failed_at}
+use Rattle.model_core.specs.States as model
 use Rattle.model_core.specs.declared.steps.UserStep.{UserStep}
 use Rattle.model_core.specs.declared.steps.UserStep.TheVariants as user_step
-use Rattle.model_core.specs.Layout.{failed_at}
-use Rattle.model_logcore.specs.LogFits.{UserAt}
-use Rattle.model_own.specs.OwnWrites.{LogWork}
+use Rattle.model_logcore.specs.{UserAt}
+use Rattle.model_own.specs.{LogWork}
 use Rattle.model_running.specs.Schedule.{HaveEnded}
-use Rattle.redo_disk.specs.{Call}
-use Rattle.redo_disk.specs.Seen.{Seen}
+use Rattle.redo_disk.specs.{Call, Seen}
 use Rattle.redo_drive.specs.Leaving.{LeavesWith}
-use Rattle.redo_drive.specs.Playing.{run_log_side}
-use Rattle.redo_drive.specs.Views.{view_of, views_of}
+use Rattle.redo_drive.specs.{run_log_side, view_of, views_of}
 use Rattle.redo_drive.specs.declared.actor.Actor.{Actor}
 use Rattle.redo_drive.specs.declared.closed.Closed.{Closed}
 use Rattle.redo_ownrule.specs.Players.{actor_of, crew, workers_of}
@@ -25,7 +21,7 @@ use Rattle.redo_ownrule.specs.declared.player.Player.{Player}
 use Rattle.redo_ownrule.specs.declared.player.Player.TheVariants as player
 use Rattle.redo_store.specs.declared.opened.Opened.{Opened}
 use Rattle.model_script.specs.declared.script.ScriptLine.{ScriptLine}
-use Rattle.redo_threads.specs.Ended.{HaveAnswered}
+use Rattle.redo_threads.specs.InThreads.{HaveAnswered}
 use Rattle.redo_threads.specs.Working.{AreAtEnd, AtEnd, IsUserOver}
 use Rattle.std.specs.Prelude.{Bool}
 

@@ -1,15 +1,12 @@
 -- A player in its seat that goes on.
-use Rattle.std.proofs.Common.{List, None, Option, Some, [], ap, append_assoc, append-nil, refl, subst, sym, ◌++◌}
-use Rattle.std.proofs.Common.{◌∙◌, ◌≡◌}
+use Rattle.std.proofs.Common.{List, None, Option, Some, [], ap, append_assoc, append-nil, refl, subst, sym, ◌++◌, ◌∙◌, ◌≡◌}
 use Rattle.atomic_table.specs.Seated.{TableId}
 use Rattle.atomic_table.specs.declared.shared.Seat.{Seat}
 use Rattle.model_core.proofs.Later.{later_refl, later_trans}
 use Rattle.model_core.specs.{Given}
-use Rattle.model_core.specs.Actors as model
-use Rattle.redo_disk.specs.{Call}
-use Rattle.redo_disk.specs.Seen.{Seen}
-use Rattle.redo_drive.specs.Receiving.{follower_of, HasGot, IsSameFollower}
-use Rattle.redo_drive.specs.Views.{view_of}
+use Rattle.model_core.specs.States as model
+use Rattle.redo_disk.specs.{Call, Seen}
+use Rattle.redo_drive.specs.{follower_of, HasGot, IsSameFollower, view_of}
 use Rattle.redo_drive.specs.declared.actor.Actor.{Actor}
 use Rattle.redo_follow.specs.Following.{Following}
 use Rattle.redo_ownrule.specs.Players.{actor_of, IsSamePlayer}
@@ -89,6 +86,7 @@ module _ {L D F : Type 0} (stands : F → List Given → Type 0) where
     appended = [];
     blocks = sym (append-nil (heard_of v).blocks);
     got = got_none stands (follower_of a);
+    reads = refl;
   }
 
   seat_trans : (v w x : View L D) (a b c : Actor F) → IsSameSeat stands v a w b → IsSameSeat stands w b x c
@@ -104,6 +102,7 @@ module _ {L D F : Type 0} (stands : F → List Given → Type 0) where
     blocks = k.blocks ∙ ap (λ (l : List Block). l ++ k.appended) h.blocks
         ∙ append_assoc (heard_of v).blocks h.appended k.appended;
     got = got_more stands (follower_of a) (follower_of b) (follower_of c) h.since k.since h.same k.same h.got k.got;
+    reads = k.reads ∙ h.reads;
   }
 
   module _ (table : TableId) where

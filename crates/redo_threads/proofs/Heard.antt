@@ -1,13 +1,12 @@
 -- Players that kept on in the seats of a table: these are its seats still, and what they have heard, the receivers got.
-use Rattle.std.proofs.Common.{Bool, List, Option, [], ap, arith, length, map, refl, subst, suc, sym, zero, ℕ, ◌++◌}
-use Rattle.std.proofs.Common.{◌∙◌, ◌∷◌, ◌≡◌}
+use Rattle.std.proofs.Common.{Bool, List, Option, [], ap, arith, length, map, refl, subst, suc, sym, zero, ℕ, ◌++◌, ◌∙◌, ◌∷◌, ◌≡◌}
 use Rattle.std.specs.List.{AllZip}
 use lib.ListN.{get_elem?}
 use mathlib.Core.Option as maybe
 use Rattle.atomic_table.specs.Seated.{TableId}
 use Rattle.atomic_table.specs.declared.shared.Seat.{Seat}
 use Rattle.model_core.specs.{Given}
-use Rattle.redo_drive.specs.Receiving.{follower_of, HasGot, IsSameFollower}
+use Rattle.redo_drive.specs.{follower_of, HasGot, IsSameFollower}
 use Rattle.redo_drive.specs.declared.actor.Actor.{Actor}
 use Rattle.redo_ownrule.proofs.Crews.{same_place}
 use Rattle.redo_ownrule.specs.Players.{actor_of, IsSamePlayer}

@@ -1,6 +1,5 @@
 -- Players that keep on in their seats have the same words.
-use Rattle.std.proofs.Common.{List, None, Option, Some, [], arith, get_or, length, refl, subst, suc, sym, zero}
-use Rattle.std.proofs.Common.{ℕ, ◌<◌, ◌∙◌, ◌∷◌, ◌≡◌}
+use Rattle.std.proofs.Common.{List, None, Option, Some, [], arith, get_or, length, refl, subst, suc, sym, zero, ℕ, ◌<◌, ◌∙◌, ◌∷◌, ◌≡◌}
 use Rattle.std.specs.List.{remove}
 use lib.ListN.{get_elem?}
 use mathlib.Core.Option as maybe
@@ -8,8 +7,7 @@ use Rattle.atomic_table.specs.Seated.{TableId}
 use Rattle.atomic_table.specs.declared.shared.Seat.{Seat}
 use Rattle.model_core.specs.{Given}
 use Rattle.model_core.specs.declared.words.Layout.{Layout}
-use Rattle.redo_disk.specs.{Call}
-use Rattle.redo_disk.specs.Seen.{Seen}
+use Rattle.redo_disk.specs.{Call, Seen}
 use Rattle.redo_rule.proofs.Gathered.{there}
 use Rattle.redo_rule.specs.Sharing.{AreLaidOut}
 use Rattle.redo_rule.specs.declared.law.Slot.{Slot}

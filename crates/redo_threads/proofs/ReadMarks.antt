@@ -1,18 +1,15 @@
 -- What reads give of the devices that a run leaves, archived or not, of which no call answered an error: the log ends at WRITE, and its
 -- newest checkpoint is CKPT.
-use Rattle.std.proofs.Common.{Bool, List, None, Option, Some, ap, arith, subst, sym, ⊎_elim, ℕ}
-use Rattle.std.proofs.Common.{◌∙◌, ◌≡◌}
+use Rattle.std.proofs.Common.{Bool, List, None, Option, Some, ap, arith, subst, sym, ⊎_elim, ℕ, ◌∙◌, ◌≡◌}
 use Rattle.std.specs.Prelude.{IfSome}
 use lib.ListN.{get_elem?}
 use mathlib.Core.Option.{some}
 use native.Mathlib.Decide.{dec_le}
 use Rattle.model_base.specs.{run_shape}
 use Rattle.model_base.specs.declared.shape.Shape.{Shape}
-use Rattle.model_core.specs.{Given, lsn}
-use Rattle.model_core.specs.Actors as model
-use Rattle.model_core.specs.Hands.{HoldsNothing}
-use Rattle.model_core.specs.LogSide.{LogSide}
-use Rattle.model_device.specs.Disk.{Disk}
+use Rattle.model_core.specs.{Given, lsn, HoldsNothing, LogSide}
+use Rattle.model_core.specs.States as model
+use Rattle.model_device.specs.{Disk}
 use Rattle.model_log.specs.declared.group.Whole.{Whole}
 use Rattle.model_parts.specs.{FitsStore, IsLive}
 use Rattle.model_report.proofs.Groups.{have-lines}
@@ -26,17 +23,13 @@ use Rattle.model_theorem.proofs.Closing.{few-blocks, some-blocks}
 use Rattle.model_theorem.proofs.Fitting.{good-from}
 use Rattle.model_theorem.proofs.Start.{start-given}
 use Rattle.model_theorem.specs.{opened_as}
-use Rattle.redo_disk.specs.{Call}
-use Rattle.redo_disk.specs.Seen.{Seen}
+use Rattle.redo_disk.specs.{Call, Seen}
 use Rattle.redo_drive.proofs.LeftRun.{if_told, met_error, where_started}
 use Rattle.redo_drive.proofs.ReadMarks.{read_to_marks}
 use Rattle.redo_drive.proofs.RestMarks.{ckpt_is_newest, write_is_written}
 use Rattle.redo_drive.specs.Drive.{ReadsToMarks}
 use Rattle.redo_drive.specs.Leaving.{LeavesWith}
-use Rattle.redo_drive.specs.Playing.{RunOf, run_data_side, run_log_side}
-use Rattle.redo_drive.specs.Startable.{MayBegin}
-use Rattle.redo_drive.specs.Turning.{core_of}
-use Rattle.redo_drive.specs.Views.{views_of}
+use Rattle.redo_drive.specs.{RunOf, run_data_side, run_log_side, core_of, MayBegin, views_of}
 use Rattle.redo_drive.specs.declared.actor.Actor.{Actor}
 use Rattle.redo_drive.specs.declared.drive.Driven.{Driven}
 use Rattle.redo_logdev.specs.{DiskHolds}

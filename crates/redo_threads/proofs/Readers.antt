@@ -1,17 +1,17 @@
 -- One of the actors archives: the one that began as a new archiver.
-use Rattle.std.proofs.Common.{Bool, List, [], ap, arith, drop, eqb-true, false, length, length-append, map, refl}
-use Rattle.std.proofs.Common.{suc, sym, true, zero, ℕ, ◌++◌, ◌+◌, ◌-◌, ◌<◌, ◌∙◌, ◌∷◌, ◌≡◌, ◌≤◌}
+use Rattle.std.proofs.Common.{Bool, List, [], ap, arith, drop, eqb-true, false, length, length-append, map, refl, suc, sym, true, zero, ℕ, ◌++◌, ◌+◌, ◌-◌, ◌<◌, ◌∙◌, ◌∷◌, ◌≡◌, ◌≤◌}
 use native.Mathlib.Decide.{dec_le}
 use lib.ListN.{get_elem?}
 use mathlib.Core.Option as maybe
 use Rattle.model_base.specs.declared.shape.Shape.{Shape}
-use Rattle.model_core.specs.Actors as model
+use Rattle.model_core.specs.States as model
 use Rattle.model_core.specs.{archives, new_reader, ReaderState, UserState}
 use Rattle.model_script.specs.declared.script.ScriptLine.{ScriptLine}
 use Rattle.redo_drive.proofs.Viewed.{length_views, views_at}
-use Rattle.redo_drive.specs.Making.{EndsWithReaders}
-use Rattle.redo_drive.specs.Setups.{followers_from, page_actors, readers_of, seated_actors, seated_before, users_of}
-use Rattle.redo_drive.specs.Views.{views_of}
+use Rattle.redo_drive.specs.Begins.{EndsWithReaders}
+use Rattle.redo_drive.specs.Setups.{followers_from, page_actors, readers_of, seated_actors, users_of}
+use Rattle.redo_drive.specs.LiveActors.{seated_before}
+use Rattle.redo_drive.specs.{views_of}
 use Rattle.redo_drive.specs.declared.actor.Actor.{Actor}
 use Rattle.redo_drive.specs.declared.actor.Actor.TheVariants as own
 use Rattle.redo_drive.specs.declared.seating.TheConstants.{FIRST_FOLLOWER}

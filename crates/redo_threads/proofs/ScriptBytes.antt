@@ -1,6 +1,5 @@
 -- FLUSHED stays within the script: what the actors of a run have in their lines is the script's text.
-use Rattle.std.proofs.Common.{Bool, List, Some, [], ap, arith, cond, eqb, false, length, length-append, map, ne_eqb, refl, slice_index}
-use Rattle.std.proofs.Common.{suc, sym, true, ℕ, ◌++◌, ◌+◌, ◌<◌, ◌∙◌, ◌∷◌, ◌≡◌, ◌≤◌}
+use Rattle.std.proofs.Common.{Bool, List, Some, [], ap, arith, cond, eqb, false, length, length-append, map, ne_eqb, refl, slice_index, suc, sym, true, ℕ, ◌++◌, ◌+◌, ◌<◌, ◌∙◌, ◌∷◌, ◌≡◌, ◌≤◌}
 use Rattle.std.specs.Prelude.{slice_get}
 use Rattle.std.specs.List.{flat_map}
 use native.Mathlib.Decide.{ℕ_discrete}
@@ -9,24 +8,21 @@ use mathlib.Core.Option as maybe
 use Rattle.atomic_table.proofs.Lists.{at_longer}
 use Rattle.model_base.specs.declared.shape.Shape.{Shape}
 use Rattle.model_core.proofs.Lsns.{lsn_le}
-use Rattle.model_core.specs.{flushed_at, Line, line_at, ReaderState, UserState}
-use Rattle.model_core.specs.Actors as model
-use Rattle.model_core.specs.Setup.{Setup}
+use Rattle.model_core.specs.{flushed_at, Line, line_at, ReaderState, UserState, Setup}
+use Rattle.model_core.specs.States as model
 use Rattle.model_ends.proofs.Sizes.{sn_within}
 use Rattle.model_ends.specs.Bound.{bytes_of, last_lsn}
 use Rattle.model_log.specs.{group_length, group_text, lsn_of, sn_of, stream_of}
-use Rattle.model_logcore.specs.{sum_over_actors}
-use Rattle.model_logcore.specs.LogHalf.{lengths}
+use Rattle.model_logcore.specs.{sum_over_actors, lengths}
 use Rattle.model_report.specs.{lines_of_user}
 use Rattle.model_running.proofs.Places.{lsn_is, sn_back}
 use Rattle.model_running.specs.{ArePageActors, AreSeated, IsOfScript}
 use Rattle.model_script.specs.{group_of, script_end}
 use Rattle.model_script.specs.declared.script.ScriptLine.{ScriptLine}
-use Rattle.redo_disk.specs.Seen.{Seen}
+use Rattle.redo_disk.specs.{Seen}
 use Rattle.redo_drive.proofs.ArchiveTurns.{flushed_reserved}
 use Rattle.redo_drive.specs.Beginning.{IsRunWith}
-use Rattle.redo_drive.specs.Playing.{RunOf, run_log_side}
-use Rattle.redo_drive.specs.Running.{RunsWith}
+use Rattle.redo_drive.specs.{RunOf, run_log_side, RunsWith}
 use Rattle.redo_drive.specs.declared.parts.Parts.{Parts}
 use Rattle.redo_store.specs.declared.opened.Opened.{Opened}
 use Rattle.redo_rule.proofs.Retook.{at_map}

@@ -3,15 +3,13 @@ use Rattle.std.proofs.Common.{Bool, List, ap, arith, length, map, subst, â„•, â—
 use lib.ListN.{get_elem?}
 use mathlib.Core.Option as maybe
 use Rattle.atomic_table.proofs.Lists.{at_longer}
-use Rattle.model_core.specs.Actors as model
-use Rattle.model_core.specs.{Given}
-use Rattle.model_core.specs.States.{UserState}
-use Rattle.model_running.specs.Seating.{ArePageActors}
+use Rattle.model_core.specs.States as model
+use Rattle.model_core.specs.{Given, UserState}
+use Rattle.model_running.specs.Schedule.{ArePageActors}
 use Rattle.model_script.specs.declared.script.ScriptLine.{ScriptLine}
-use Rattle.redo_disk.specs.{Call}
-use Rattle.redo_disk.specs.Seen.{Seen}
+use Rattle.redo_disk.specs.{Call, Seen}
 use Rattle.redo_drive.specs.Leaving.{LeavesWith}
-use Rattle.redo_drive.specs.Views.{views_of}
+use Rattle.redo_drive.specs.{views_of}
 use Rattle.redo_drive.specs.declared.actor.Actor.{Actor}
 use Rattle.redo_drive.specs.declared.closed.Closed.{Closed}
 use Rattle.redo_store.specs.declared.opened.Opened.{Opened}

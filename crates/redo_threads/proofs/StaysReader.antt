@@ -1,14 +1,11 @@
 -- The archiver of a run stays the archiver, and nobody else becomes one.
-use Rattle.std.proofs.Common.{Bool, List, None, Option, Some, [], ap, false, is_some, map, refl, suc, sym, true, zero, ℕ}
-use Rattle.std.proofs.Common.{inl, inr, ◌==◌, ◌∙◌, ◌∷◌, ◌≡◌, ◌⊎◌}
+use Rattle.std.proofs.Common.{Bool, List, None, Option, Some, [], ap, false, is_some, map, refl, suc, sym, true, zero, ℕ, inl, inr, ◌==◌, ◌∙◌, ◌∷◌, ◌≡◌, ◌⊎◌}
 use lib.ListN.{get_elem?}
 use mathlib.Core.Option as maybe
-use Rattle.model_core.specs.Actors as model
-use Rattle.model_core.specs.Later.{IsSameActor}
-use Rattle.model_core.specs.{archives, ReaderState}
-use Rattle.model_own.specs.OwnWrites.{LogWork}
-use Rattle.redo_drive.specs.Receiving.{follower_of, IsSameFollower}
-use Rattle.redo_drive.specs.Views.{view_of}
+use Rattle.model_core.specs.States as model
+use Rattle.model_core.specs.{IsSameActor, archives, ReaderState}
+use Rattle.model_own.specs.{LogWork}
+use Rattle.redo_drive.specs.{follower_of, IsSameFollower, view_of}
 use Rattle.redo_drive.specs.declared.actor.Actor.{Actor}
 use Rattle.redo_drive.specs.declared.actor.Actor.TheVariants as own
 use Rattle.redo_ownrule.proofs.Placed.{alone}

@@ -6,23 +6,20 @@ use mathlib.Core.Option.{some}
 use Rattle.atomic_table.specs.Seated.{TableId}
 use Rattle.atomic_table.specs.declared.shared.Seat.{Seat}
 use Rattle.model_core.specs.{Given, next, ReaderState, took}
-use Rattle.model_core.specs.Actors as model
+use Rattle.model_core.specs.States as model
 use Rattle.model_core.specs.declared.ops.Op.TheVariants as op
 use Rattle.model_core.specs.declared.words.Layout.{Layout}
 use Rattle.model_log.specs.{IsRunOf}
 use Rattle.model_log.specs.declared.group.Whole.{Whole}
-use Rattle.model_own.specs.OwnWrites.{LogWork}
+use Rattle.model_own.specs.{LogWork}
 use Rattle.model_page.specs.declared.content.Content.{Content}
 use Rattle.model_script.specs.{script_end}
 use Rattle.redo_archive.specs.Part.{Part, PartArchives}
 use Rattle.redo_archiver.specs.{append_answer, IsFullBlock, KeepsPace}
-use Rattle.redo_disk.specs.{Call}
-use Rattle.redo_disk.specs.Seen.{Seen}
+use Rattle.redo_disk.specs.{Call, Seen}
 use Rattle.redo_disk.specs.declared.error.DevError.{DevError}
-use Rattle.redo_drive.specs.Archiving.{Appends, IsSameArchive}
-use Rattle.redo_drive.specs.Making.{EndsWithReaders}
-use Rattle.redo_drive.specs.Startable.{AreNewFollowers, MayBegin}
-use Rattle.redo_drive.specs.Views.{view_of, views_of}
+use Rattle.redo_drive.specs.{Appends, IsSameArchive, AreNewFollowers, MayBegin, view_of, views_of}
+use Rattle.redo_drive.specs.Begins.{EndsWithReaders}
 use Rattle.redo_drive.specs.declared.actor.Actor.{Actor}
 use Rattle.redo_drive.specs.declared.actor.Actor.TheVariants as actor
 use Rattle.redo_follow.specs.Following.{Following}

@@ -1,18 +1,12 @@
 -- What a run in threads comes to, in plain words.
-use Rattle.std.specs.Prelude.{List, length, ℕ, ◌≡◌}
+use Rattle.std.specs.Prelude.{List, ◌≡◌}
 use Rattle.std.specs.List.{AllZip}
-use lib.ListN.{get_elem?}
-use mathlib.Core.Option.{some}
-use Rattle.model_core.specs.Actors as model
-use Rattle.model_core.specs.States.{UserState}
+use Rattle.model_core.specs.States as model
+use Rattle.model_core.specs.{IsSameActor}
 use Rattle.model_running.specs.Schedule.{HaveEnded}
-use Rattle.redo_drive.specs.History.{ListsInOrder}
+use Rattle.redo_drive.specs.{ListsInOrder}
 use Rattle.redo_drive.specs.declared.closed.Closed.{Closed}
-use Rattle.model_core.specs.Later.{IsSameActor}
-
--- each user has answered all of its lines
-abbrev pub HaveAnswered : List model.Actor → Type 0
-HaveAnswered actors = (seat : ℕ) (u : UserState) → get_elem? actors seat ≡ some (model.User u) → u.k ≡ length u.lines
+use Rattle.redo_threads.specs.InThreads.{HaveAnswered}
 
 -- The actors stand in their order. Each user has ended, and has answered all of its lines where the code tells of no failure.
 -- The history lists the groups of these actors.

@@ -2,17 +2,15 @@
 use Rattle.std.specs.Prelude.{Bool, List, length, map, suc, ℕ, ◌++◌, ◌<◌, ◌∷◌, ◌≡◌}
 use lib.ListN.{get_elem?}
 use mathlib.Core.Option.{some}
-use Rattle.model_core.specs.Actors as model
-use Rattle.model_core.specs.States.{FlusherState, UserState, WriterState}
+use Rattle.model_core.specs.States as model
+use Rattle.model_core.specs.{FlusherState, UserState, WriterState}
 use Rattle.model_report.specs.Legal.{lines_of_user}
-use Rattle.model_running.specs.Schedule.{HaveEnded}
-use Rattle.model_running.specs.Seating.{ArePageActors}
+use Rattle.model_running.specs.Schedule.{HaveEnded, ArePageActors}
 use Rattle.model_script.specs.declared.script.ScriptLine.{ScriptLine}
-use Rattle.redo_drive.specs.History.{ListsInOrder}
+use Rattle.redo_drive.specs.{ListsInOrder}
 use Rattle.redo_drive.specs.declared.drive.Driven.{Driven}
 use Rattle.redo_drive.specs.declared.drive.RunEnd.TheVariants as run_end
 use Rattle.redo_store.specs.declared.opened.Opened.{Opened}
-use Rattle.redo_threads.specs.Ended.{HaveAnswered}
 
 -- These are the actors of a script, in their order: the users that have lines, by their numbers, each with as many lines as the
 -- script has of it; then the writer and the flusher; then, unless the log runs alone, the actors of the pages; and at
@@ -28,6 +26,10 @@ pub record AreActorsOf (script : List ScriptLine) (log_only : Bool) (actors : Li
   pub has_lines : (i : ℕ) (u : UserState) → get_elem? users i ≡ some u → 0 < length u.lines
   pub lines : (i : ℕ) (u : UserState) → get_elem? users i ≡ some u → length u.lines ≡ length (lines_of_user u.user script)
   pub all : (user : ℕ) → 0 < length (lines_of_user user script) → (i : ℕ) × (u : UserState) × (get_elem? users i ≡ some u) × (u.user ≡ user)
+
+-- each user has answered all of its lines
+abbrev pub HaveAnswered : List model.Actor → Type 0
+HaveAnswered actors = (seat : ℕ) (u : UserState) → get_elem? actors seat ≡ some (model.User u) → u.k ≡ length u.lines
 
 -- THE RUN IN THREADS came to these actors of the script. Each user has ended, and has answered all of its lines where the code
 -- tells of no failure. The history lists the groups of these actors.

@@ -1,10 +1,8 @@
 // The drive in threads.
 ghost use Rattle.std.specs.Prelude.{IfErr, IfOk, IfSome, None, ◌≡◌};
-ghost use Rattle.redo_drive.specs.Archived.{HaveArchived};
-ghost use Rattle.redo_drive.specs.Startable.{AreNewFollowers, IsNewArchive, MayBegin};
+ghost use Rattle.redo_drive.specs.{HaveArchived, AreNewFollowers, IsNewArchive, MayBegin, views_of};
 ghost use Rattle.redo_drive.specs.Drive.{Owes, ReadsToMarks};
 ghost use Rattle.redo_drive.specs.Followed.{HaveFollowed};
-ghost use Rattle.redo_drive.specs.Views.{views_of};
 ghost use Rattle.redo_rule.specs.Failing.{CodeHasCause};
 ghost use Rattle.redo_threads.specs.InThreads.{RunsInThreads};
 

@@ -2,13 +2,11 @@
 ghost use Rattle.std.specs.Prelude.{IfSome, None, Option, false, is_some, true, ℕ, ◌≡◌};
 ghost use lib.ListN.{get_elem?};
 ghost use mathlib.Core.Option.{some};
-ghost use Rattle.model_own.specs.OwnWrites.{LogWork};
+ghost use Rattle.model_own.specs.{LogWork};
 ghost use Rattle.redo_archive.specs.Part.{Part};
-ghost use Rattle.redo_drive.specs.Archived.{HaveArchived};
+ghost use Rattle.redo_drive.specs.{HaveArchived, IsNewArchive, views_of};
 ghost use Rattle.redo_drive.specs.Drive.{ReadsToMarks};
 ghost use Rattle.redo_drive.specs.Leaving.{LeavesWith};
-ghost use Rattle.redo_drive.specs.Startable.{IsNewArchive};
-ghost use Rattle.redo_drive.specs.Views.{views_of};
 ghost use Rattle.redo_ownrule.specs.Players.{crew};
 ghost use Rattle.redo_ownrule.specs.Sharing.{IsFixed, IsUnseated, opened_of, own_of, shared_script};
 ghost use Rattle.redo_ownrule.specs.declared.player.Player.{Player as ThePlayer};

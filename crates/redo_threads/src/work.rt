@@ -174,7 +174,8 @@ pub(crate) fn stint<L: Sectors, D: Sectors, A: Sectors, F: Receiver, G: Gate>(
     Some(true)
 }
 
-/// Plays until the player has come to its end.
+/// Plays until the player has come to its end. One that is no user looks at least once whether there is something to do, also where
+/// the run has ended before.
 pub(crate) fn work<R: Wait, L: Sectors, D: Sectors, A: Sectors, F: Receiver, G: Gate>(
     rt: &R,
     table: &Ring<L, D>,
@@ -194,7 +195,7 @@ pub(crate) fn work<R: Wait, L: Sectors, D: Sectors, A: Sectors, F: Receiver, G: 
 {
     let mut pace = Pace::new(&*player, bells);
     let mut op = ask(table, seat, &*player);
-    let mut moved = false;
+    let mut moved = user_of(&*player).is_none();
     for _ in rt.forever() {
         if !moved && is_at_end(&*player, op, bells) {
             pace.leave(bells);

@@ -1,5 +1,5 @@
 use Rattle.std.proofs.Common.{ap, arith}
-use Rattle.redo_live.proofs.Quotas.{many_actors, others}
+use Rattle.redo_ownrule.proofs.LiveCount.{many_actors, others}
 use Rattle.redo_live.proofs.quota.actor_count.Goals as goal
 
 pub returns-then-log_only-clause-count : goal.returns-then-log_only-clause-count

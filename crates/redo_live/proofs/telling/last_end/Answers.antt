@@ -8,8 +8,7 @@ pub returns : goal.returns
 returns c =
     let u = c.args.user.now in
     let n = length u.starts - 1 in
-    let last : c.group_count-last.result - 1 ≡ n = ap (λ k. k - 1) c.group_count-last.ensures in
-    let start = c.group_start.ensures ∙ ap (slice_index u.starts) last in
-    let long = c.group_length.ensures ∙ ap (λ k. length (line_at u.lines k).bytes) last in
+    let start = c.last_group-start.ensures.start in
+    let long = c.last_group-start.ensures.length in
     let end = slice_index u.starts n + length (line_at u.lines n).bytes in
     c.lsn_of.ensures ∙ ap lsn_of (omega arith) ∙ sym (lsn_is end)

@@ -1,10 +1,10 @@
 use Rattle.std.proofs.Common.{Option, ap, sym, ◌∙◌}
 use Rattle.model_core.specs.declared.ops.Op.TheVariants as op
 use Rattle.redo_disk.specs.declared.error.DevError.{DevError}
-use Rattle.redo_drive.specs.Failures.{call_answer}
+use Rattle.redo_drive.specs.{call_answer}
 use Rattle.redo_drive.specs.declared.device.Device.TheVariants.{Log}
 use Rattle.redo_ownrule.proofs.OwnDevice.{call_has, call_ok, called, lends_work, sync_live, sync_takes}
-use Rattle.model_own.specs.OwnWrites.{own_lends}
+use Rattle.model_own.specs.{own_lends}
 use Rattle.redo_ownrule.proofs.OwnStepping.{work_there}
 use Rattle.redo_ownrule.proofs.OwnPlaying.{op_played}
 use Rattle.redo_ownrule.proofs.device.sync.Goals as goal

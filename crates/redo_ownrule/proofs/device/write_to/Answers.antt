@@ -1,7 +1,7 @@
 use Rattle.std.proofs.Common.{Option, ap, sym, ◌∙◌}
 use Rattle.model_core.specs.declared.ops.Op.TheVariants as op
 use Rattle.redo_disk.specs.declared.error.DevError.{DevError}
-use Rattle.redo_drive.specs.Failures.{call_answer}
+use Rattle.redo_drive.specs.{call_answer}
 use Rattle.redo_drive.specs.declared.device.Device.TheVariants.{Log}
 use Rattle.redo_ownrule.proofs.OwnDevice.{call_has, call_ok, called, lends_work, p_work, write_takes}
 use Rattle.redo_ownrule.proofs.OwnPlaying.{op_played}

@@ -3,7 +3,7 @@ use Rattle.std.proofs.lemmas.Iterator.Adapters.{YieldsList-from_vec}
 use Rattle.std.proofs.lemmas.Iterator.Consumers.{YieldsList-end, YieldsList-turn}
 use Rattle.std.proofs.lemmas.List.{length-append, map-id}
 use Rattle.model_core.specs.{UserState}
-use Rattle.model_own.specs.OwnWrites.{LogWork}
+use Rattle.model_own.specs.{LogWork}
 use Rattle.redo_drive.specs.declared.actor.Actor.{Actor}
 use Rattle.redo_drive.specs.declared.actor.Actor.TheVariants as actor
 use Rattle.redo_ownrule.proofs.Placed.{Placed, place_more, placed, room_left, whole_crew}

@@ -27,10 +27,11 @@ cut_one-seat-requires-clause-head g c =
     let a = c.requires.apart in
     let n = c.len.ensures in
     let m : c.len-in-loop-first.result ≡ length c.loop-first.seats.items = search rules in
-    head c.args.table.now.table_id _ (one_place a.0 c.args.players.now) none_heard c.args.players.now
+    head c.args.table.now.table_id _ none_heard c.args.players.now
     c.loop-first.first c.loop-first.seats.items (c.loop-first.invariant.apart a.0 a.1) c.index-players-len.result
     (players_at c.args.players.now c.len-in-loop-first.result (length c.loop-first.seats.items)
     c.index-players-len.result c.index-players-len.is m (let t = c.loop-first-test.true in omega arith))
+    (one_place a.0 c.args.players.now)
 
 pub cut_one-seat-requires-clause-first : goal.cut_one-seat-requires-clause-first
 cut_one-seat-requires-clause-first g c =
@@ -48,13 +49,13 @@ loop-first-preserved g c =
       apart = λ own A. subst (AreHandedOut c.args.table.now.table_id (place own c.args.players.now) none_heard
           c.args.players.now c.cut_one-seat.new.first) (sym {A = List (Seat (Slot _ _) (View _ _))}
           c.push_reserved.ensures.items)
-          (cut_next c.args.table.now.table_id _ (one_place own c.args.players.now) none_heard c.args.players.now
+          (cut_next c.args.table.now.table_id _ none_heard c.args.players.now
           c.loop-first.first c.loop-first.seats.items (c.loop-first.invariant.apart own A) c.index-players-len.result at
           c.cut_one-seat.new.first c.cut_one-seat.result e.first e.left e.right e.mine c.requires.cleaner
           c.loop-first.invariant.part);
       part = subst (λ (l : List (Seat (Slot _ _) (View _ _))). PartIsKept (length l) (views c.args.players.now)
           c.cut_one-seat.new.first) (sym c.push_reserved.ensures.items)
-          (cut_part c.args.table.now.table_id _ (one_place a.0 c.args.players.now) none_heard c.args.players.now
+          (cut_part c.args.table.now.table_id _ none_heard c.args.players.now
           c.loop-first.first c.loop-first.seats.items (c.loop-first.invariant.apart a.0 a.1) c.index-players-len.result at
           c.cut_one-seat.new.first c.cut_one-seat.result e.first e.left e.right e.mine c.requires.cleaner
           c.loop-first.invariant.part);
@@ -87,7 +88,7 @@ returns-clause-part g c =
 pub returns-clause-fresh : goal.returns-clause-fresh
 returns-clause-fresh g c = let a = c.requires.apart in record {
   knows = c.loop-first.invariant.told;
-  none = none_heard_yet c.args.table.now.table_id _ (one_place a.0 c.args.players.now) none_heard c.args.players.now
+  none = none_heard_yet c.args.table.now.table_id _ none_heard c.args.players.now
       c.loop-first.first c.loop-first.seats.items (c.loop-first.invariant.apart a.0 a.1) (λ n. refl);
 }
 

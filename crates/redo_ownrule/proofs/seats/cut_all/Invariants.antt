@@ -1,7 +1,7 @@
 -- The players so far have their seats.
 use Rattle.std.proofs.Common.{Bool, length, map, ◌-◌, ◌≡◌, ◌≤◌}
 use Rattle.std.specs.Prelude.{vec_capacity}
-use Rattle.redo_drive.specs.Views.{views_of}
+use Rattle.redo_drive.specs.{views_of}
 use Rattle.redo_ownrule.specs.Gathering.{AreHandedOut}
 use Rattle.redo_ownrule.specs.Players.{actor_of, place}
 use Rattle.redo_rule.proofs.Gathered.{KnowTable}

@@ -1,5 +1,5 @@
 use Rattle.std.proofs.Common.{refl, subst, sym, ◌∙◌}
-use Rattle.model_own.specs.OwnWrites.{own_lends}
+use Rattle.model_own.specs.{own_lends}
 use Rattle.redo_ownrule.proofs.OwnDesk.{same_work}
 use Rattle.redo_rule.proofs.Calling.{write_live}
 use Rattle.redo_words.specs.{Lends}

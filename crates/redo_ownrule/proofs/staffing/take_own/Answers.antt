@@ -2,10 +2,9 @@ use Rattle.std.proofs.Common.{List, Some, ap, arith, refl, rules, sym, ◌++◌,
 use Rattle.std.proofs.lemmas.Iterator.Adapters.{YieldsList-from_vec}
 use Rattle.std.proofs.lemmas.Iterator.Consumers.{YieldsList-end}
 use Rattle.std.proofs.lemmas.List.{map-id}
-use Rattle.model_own.specs.OwnWrites.{LogWork, OwnUser}
+use Rattle.model_own.specs.{LogWork, OwnUser}
 use Rattle.redo_drive.specs.declared.actor.Actor.TheVariants as actor
-use Rattle.redo_ownrule.proofs.Players.{Found, found, has_flusher, has_writer, its_crew, its_home, its_order}
-use Rattle.redo_ownrule.proofs.Players.{its_others, none_yet, put_more, put_other}
+use Rattle.redo_ownrule.proofs.Players.{Found, found, has_flusher, has_writer, its_crew, its_home, its_order, its_others, none_yet, put_more, put_other}
 use Rattle.redo_ownrule.proofs.staffing.take_own.Goals as goal
 use Rattle.redo_ownrule.specs.Players.{crew}
 use Rattle.redo_ownrule.specs.declared.player.Player.{Player}

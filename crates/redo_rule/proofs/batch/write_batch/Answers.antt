@@ -1,6 +1,6 @@
 use Rattle.std.proofs.Common.{Option, ap, sym, ◌∙◌}
 use Rattle.redo_disk.specs.declared.error.DevError.{DevError}
-use Rattle.redo_drive.specs.Failures.{call_answer}
+use Rattle.redo_drive.specs.{call_answer}
 use Rattle.redo_drive.specs.declared.device.Device.TheVariants.{Data}
 use Rattle.redo_rule.proofs.Batching.{batched_fits, batched_leaves, batched_ok, lends_part, may_call, reach_ok}
 use Rattle.redo_rule.proofs.batch.write_batch.Goals as goal

@@ -1,6 +1,6 @@
 use Rattle.model_core.specs.{filled, lent}
 use Rattle.redo_drive.proofs.SomeLent.{some_lent}
-use Rattle.redo_drive.specs.Views.{view_of}
+use Rattle.redo_drive.specs.{view_of}
 use Rattle.redo_rule.proofs.Calling.{called_fits, called_ok, lends_slot, may_call, plain_leaves}
 use Rattle.redo_rule.specs.Plays.{block_filling}
 use Rattle.redo_rule.proofs.device.checkpoint.Goals as goal

@@ -1,8 +1,7 @@
 use Rattle.std.proofs.Common.{None, subst, sym}
 use Rattle.model_core.specs.declared.ops.Answer.TheVariants as answer
 use Rattle.redo_drive.proofs.Taken.{follower_took}
-use Rattle.redo_drive.specs.Receiving.{MarkFits}
-use Rattle.redo_drive.specs.Views.{view_of}
+use Rattle.redo_drive.specs.{MarkFits, view_of}
 use Rattle.redo_drive.specs.declared.actor.Actor.{Actor}
 use Rattle.redo_drive.specs.declared.actor.Actor.TheVariants as own
 use Rattle.redo_rule.proofs.GivenBack.{archiver_gives, follower_gives}

@@ -1,11 +1,10 @@
 use Rattle.std.proofs.Common.{List, ap, subst, sym, ℕ, ◌∙◌}
 use Rattle.model_core.specs.{lent, LogServed}
-use Rattle.model_core.specs.Actors as model
+use Rattle.model_core.specs.States as model
 use Rattle.model_core.specs.declared.ops.Op.TheVariants as op
 use Rattle.redo_drive.proofs.SomeLent.{some_lent}
-use Rattle.redo_drive.specs.Devices.{call_code}
+use Rattle.redo_drive.specs.{call_code, view_of}
 use Rattle.redo_drive.specs.LogPartSide as log_part
-use Rattle.redo_drive.specs.Views.{view_of}
 use Rattle.redo_drive.specs.declared.device.Device.TheVariants.{Log}
 use Rattle.redo_rule.proofs.Calling.{called_leaves, called_ok, lends_slot, may_call}
 use Rattle.redo_rule.proofs.Filled.{lent_read}

@@ -1,9 +1,8 @@
 use Rattle.std.proofs.Common.{ap, ◌∙◌}
 use Rattle.model_core.specs.{filled, lent}
 use Rattle.redo_drive.proofs.SomeLent.{some_lent}
-use Rattle.redo_drive.specs.Failures.{call_answer}
+use Rattle.redo_drive.specs.{call_answer, view_of}
 use Rattle.redo_drive.specs.declared.device.Device.TheVariants.{Log}
-use Rattle.redo_drive.specs.Views.{view_of}
 use Rattle.redo_rule.proofs.Calling.{called_fits, called_ok, lends_slot, may_call, plain_leaves}
 use Rattle.redo_rule.specs.Plays.{block_filling}
 use Rattle.redo_rule.proofs.device.sync.Goals as goal

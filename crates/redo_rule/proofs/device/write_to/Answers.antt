@@ -1,7 +1,7 @@
 use Rattle.std.proofs.Common.{subst, sym}
 use Rattle.model_core.specs.{filled, lent}
-use Rattle.model_core.specs.Actors as model
-use Rattle.redo_drive.specs.Views.{view_of}
+use Rattle.model_core.specs.States as model
+use Rattle.redo_drive.specs.{view_of}
 use Rattle.redo_rule.proofs.Calling.{called_fits, called_ok, lends_same, lends_slot, may_call, plain_leaves}
 use Rattle.redo_rule.specs.Plays.{block_filling}
 use Rattle.redo_words.specs.{Lends}

@@ -1,5 +1,5 @@
 use Rattle.std.proofs.Common.{sym, ◌∙◌}
-use Rattle.redo_drive.specs.Lists.{listing_at}
+use Rattle.redo_drive.specs.{listing_at}
 use Rattle.redo_rule.proofs.Kept.{same_data, same_log}
 use Rattle.redo_rule.proofs.Laid.{data_last, first_list, list_last, log_last, second_list, third_list}
 use Rattle.redo_rule.proofs.laying.parts_in.Goals as goal

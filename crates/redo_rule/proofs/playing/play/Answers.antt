@@ -1,4 +1,4 @@
-use Rattle.redo_drive.specs.Views.{view_of}
+use Rattle.redo_drive.specs.{view_of}
 use Rattle.redo_rule.proofs.Causes.{ends_so}
 use Rattle.redo_rule.proofs.playing.play.Goals as goal
 

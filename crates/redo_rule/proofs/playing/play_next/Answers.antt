@@ -1,5 +1,5 @@
 use Rattle.std.proofs.Common.{inl, inr, subst, sym, ◌∙◌}
-use Rattle.model_core.specs.Actors as model
+use Rattle.model_core.specs.States as model
 use Rattle.redo_rule.proofs.Took.{rested}
 use Rattle.redo_rule.specs.Seating.{IsSeatOf}
 use Rattle.redo_rule.proofs.playing.play_next.Goals as goal

@@ -1,7 +1,7 @@
 use Rattle.std.proofs.Common.{subst, sym}
-use Rattle.redo_drive.specs.Views.{view_of}
+use Rattle.redo_drive.specs.{view_of}
 use Rattle.model_core.proofs.Asks.{frees}
-use Rattle.model_core.specs.Hands.{IsFreeOp}
+use Rattle.model_core.specs.{IsFreeOp}
 use Rattle.redo_rule.proofs.resting.holds_nothing.Goals as goal
 
 pub returns-clause-nothing : goal.returns-clause-nothing

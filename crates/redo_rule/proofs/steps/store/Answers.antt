@@ -3,7 +3,7 @@ use Rattle.model_core.specs.{index}
 use Rattle.model_core.specs.declared.ops.Answer.TheVariants as answer
 use Rattle.model_core.specs.declared.ops.Op.TheVariants as op
 use Rattle.model_core.specs.declared.words.Layout.{Layout}
-use Rattle.redo_drive.specs.Views.{view_of}
+use Rattle.redo_drive.specs.{view_of}
 use Rattle.redo_rule.proofs.Stepping.{store_ok, word_leaves}
 use Rattle.redo_rule.proofs.Took.{may_take}
 use Rattle.redo_rule.specs.Plays.{no_filling}

@@ -1,12 +1,12 @@
 use Rattle.std.proofs.Common.{List, Option, ap, subst, sym, ◌∙◌, ◌≡◌}
 use Rattle.model_core.specs.{next, took}
-use Rattle.model_core.specs.Actors as model
+use Rattle.model_core.specs.States as model
 use Rattle.model_core.specs.declared.ops.Answer.{Answer}
 use Rattle.model_core.specs.declared.ops.Op.TheVariants as op
 use Rattle.redo_archiver.specs.{append_answer, IsAppended, KeepsBlock}
 use Rattle.redo_disk.proofs.Made.{serves_end}
 use Rattle.redo_disk.specs.declared.error.DevError.{DevError}
-use Rattle.redo_drive.specs.Views.{view_of}
+use Rattle.redo_drive.specs.{view_of}
 use Rattle.redo_drive.specs.declared.actor.Actor.{Actor}
 use Rattle.redo_threads.proofs.archiving.append_to.Goals as goal
 

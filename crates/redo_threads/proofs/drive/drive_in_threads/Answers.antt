@@ -1,7 +1,6 @@
 use Rattle.std.proofs.Common.{IfSome, ap, subst, sym, ◌∙◌}
-use Rattle.redo_drive.specs.Making.{EndsWithReaders}
-use Rattle.redo_drive.specs.Startable.{AreNewFollowers, IsNewArchive}
-use Rattle.redo_drive.specs.Views.{views_of}
+use Rattle.redo_drive.specs.Begins.{EndsWithReaders}
+use Rattle.redo_drive.specs.{AreNewFollowers, IsNewArchive, views_of}
 use Rattle.redo_ownrule.specs.Players.{crew}
 use Rattle.redo_ownrule.specs.Sharing.{opened_of, shared_script}
 use Rattle.redo_rule.specs.Ruled.{starts_with}

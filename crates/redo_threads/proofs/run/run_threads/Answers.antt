@@ -1,18 +1,16 @@
 use Rattle.std.proofs.Common.{None, Option, Some, ap, is_some, length, map, refl, subst, sym, ◌+◌, ◌∙◌, ◌≡◌}
 use Rattle.std.specs.List.{AllZip}
-use Rattle.model_core.specs.Later.{IsSameActor}
+use Rattle.model_core.specs.{IsSameActor}
 use Rattle.redo_threads.proofs.ReadMarks.{reads_marks}
-use Rattle.model_own.specs.OwnWrites.{LogWork}
+use Rattle.model_own.specs.{LogWork}
 use Rattle.redo_ownrule.proofs.Crews.{crew_later, same_order}
 use Rattle.redo_ownrule.specs.Leaving.{LeavesHeard}
-use Rattle.redo_drive.specs.Views.{views_of}
-use Rattle.redo_ownrule.proofs.Crews.{crew_later, same_order}
+use Rattle.redo_drive.specs.{views_of, IsNewArchive, HaveArchived}
 use Rattle.redo_ownrule.specs.Players.{actor_of, AreInOrder, crew, workers}
 use Rattle.redo_ownrule.specs.Sharing.{AreSeatsOf, opened_of, own_of, shared_script, table_of}
 use Rattle.redo_rule.specs.Closing.{done_with, TellsLoss}
 use Rattle.redo_rule.specs.Ruled.{starts_about}
 use Rattle.redo_archive.specs.Part.{Part}
-use Rattle.redo_drive.specs.Startable.{IsNewArchive}
 use Rattle.redo_rule.specs.Sharing.{AreFresh, AreLaidOut}
 use Rattle.redo_rule.specs.declared.law.About.{About}
 use Rattle.std.specs.Prelude.{IfSome}
@@ -21,7 +19,6 @@ use Rattle.redo_threads.proofs.ArchiveRun.{leaves_archive, tells}
 use Rattle.redo_threads.proofs.Ending.{all_rest, have_answered, have_ended}
 use Rattle.redo_threads.proofs.Heard.{all_same, have_heard, in_order, seated}
 use Rattle.redo_threads.proofs.Keeping.{keep_long}
-use Rattle.redo_drive.specs.Archived.{HaveArchived}
 use Rattle.redo_threads.specs.Archiving.{LeavesArchive, lost_of, MayBeArchived}
 use Rattle.redo_threads.specs.Working.{AreSeated, KeepOn}
 use Rattle.redo_threads.specs.declared.crew.Crew.{Crew}

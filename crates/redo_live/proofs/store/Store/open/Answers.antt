@@ -2,7 +2,8 @@ use Rattle.std.proofs.Common.{ap, arith, refl, subst, ℕ, ◌*◌, ◌+◌, ◌
 use Rattle.std.specs.Prelude.{vec_capacity}
 use Rattle.model_log.specs.{sn_of}
 use Rattle.redo_live.proofs.NewlyOpened.{many_players, newly_opened}
-use Rattle.redo_live.proofs.Quotas.{lsn_low, many_actors, others}
+use Rattle.redo_live.proofs.Quotas.{lsn_low}
+use Rattle.redo_ownrule.proofs.LiveCount.{many_actors, others}
 use Rattle.redo_live.proofs.store.Store.open.Goals as goal
 use Rattle.redo_live.specs.Quota.{share_of}
 use Rattle.redo_live.specs.declared.quota.TheConstants.{LAST_SN}
@@ -54,7 +55,8 @@ returns-clause-ok g c =
     let seats_fit : c.args.users + others c.args.log_only ≤ vec_capacity c.in-Ok.rooms.seats = omega arith in
     let players_fit : c.args.users + others c.args.log_only ≤ vec_capacity c.in-Ok.rooms.players = omega arith in
     newly_opened c.args.opened live c.args.log_only c.in_ok-shared.shared shared c.in_ok-shared.players.items
-    c.in_ok-shared.ensures.new c.seats-seats.ensures.same c.seats-seats.result.items sit c.seats-seats.ensures.layout.1
+    c.in_ok-shared.ensures.new c.seats-seats.ensures.same c.seats-seats.ensures.layout.0
+    c.seats-seats.result.items sit c.seats-seats.ensures.layout.1
     store refl refl small c.seats-seats.ensures.seated refl refl c.requires.runnable.limits c.in-Ok.ensures.no_seats
     seats_fit c.in-Ok.ensures.no_players players_fit c.requires.most c.seat_all-all_users.result.0.items
     c.seat_all-all_users.result.1.items c.seat_all-all_users.ensures.count.0 c.seat_all-all_users.ensures.count.1

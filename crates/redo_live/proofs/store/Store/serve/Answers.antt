@@ -2,10 +2,11 @@ use Rattle.std.proofs.Common.{length, rules}
 use denote.Exit.{no}
 use denote.Param.Send.{arg_send, arg_sync, mut_slice_send, param_send, param_sync, shr_send}
 use Rattle.redo_live.proofs.Crossed.{three_send}
-use Rattle.redo_live.proofs.Crew.{all_stay}
+use Rattle.redo_live.proofs.Crew.{all_stay, all_users}
 use Rattle.redo_live.proofs.StoreSync.{store_sync}
 use Rattle.redo_live.proofs.worker.Worker.TheSendSync.{the_send}
 use Rattle.redo_live.specs.Serving.{HaveServed, HaveWorked}
+use Rattle.redo_ownrule.specs.LiveClosing.{user_count}
 use Rattle.redo_live.proofs.store.Store.serve.Goals as goal
 use Rattle.redo_live.proofs.store.Store.serve.Lts as lts
 
@@ -38,8 +39,8 @@ join_mut-requires-after_bounds g c κs within =
     let wy = param_sync 3 W (arg_sync _ no _ c.type_bounds.sync-W) in
     let ls = param_send 0 L (arg_send _ no _ c.type_bounds.send-L) in
     let ds = param_send 1 D (arg_send _ no _ c.type_bounds.send-D) in
-    let workers = c.requires.workers_are in
-    let users = c.requires.users_are in
+    let workers = c.requires.may_close.workers_are in
+    let users = all_users c.args.self.now c.args.users.now c.args.workers.now c.requires in
     search (rules, ry, ls, ly, ds, dy, wy, workers, users)
 
 pub returns : goal.returns
@@ -50,6 +51,7 @@ returns g c =
     let served : HaveServed store does c.args.users.now c.users-1.given.0 = search (rules, c.join_mut.ensures) in
     record {
       all = all_stay store c.args.users.now c.users-1.given.0 c.args.workers.now c.workers-1.given.0 served.count
-          worked.count c.requires served.users (worked.still (length c.args.users.now) c.requires.workers_are);
+          worked.count c.requires served.users
+          (worked.still (user_count store.shared) c.requires.may_close.workers_are);
       served = served;
     }

@@ -1,5 +1,5 @@
 use Rattle.std.proofs.Common.{List, ap, length, refl, subst, sym, ◌∙◌}
-use Rattle.redo_ownrule.proofs.Finished.{actors_fit, actors_of, all_groups, all_out, closes, finished, its_list}
+use Rattle.redo_ownrule.proofs.Finished.{actors_fit, actors_of, all_groups, all_kept, all_out, closes, finished, its_list}
 use Rattle.redo_ownrule.proofs.Left.{leaves_players}
 use Rattle.redo_ownrule.proofs.Losses.{its_losses}
 use Rattle.redo_ownrule.proofs.shared.Shared.finish.Goals as goal
@@ -11,7 +11,7 @@ use Rattle.redo_rule.specs.Sharing.{heard_by}
 
 pub take_all-requires-clause-apart : goal.take_all-requires-clause-apart
 take_all-requires-clause-apart g c = (
-  own_of c.args.self,
+  _,
   all_out c.args.self.board.shared.table_id (own_of c.args.self) c.args.players.items c.as_slice.result.now
       c.as_slice.ensures.value c.args.seats.items c.args.self.first c.requires.seats c.requires.seated.first
       c.requires.seated.none,
@@ -29,19 +29,30 @@ pub close_table-log-requires-clause-ends : goal.close_table-log-requires-clause-
 close_table-log-requires-clause-ends g c = λ words slots final.
     let E = closes g.L.Sectors.seen g.L.Sectors.gives g.D.Sectors.seen g.D.Sectors.gives c.args.self.board.shared.key
     (heard_by c.args.seats.items) c.args.players.items c.as_slice.result.now c.as_slice.ensures.value
-    c.take_all.new.first (c.take_all.ensures.all (own_of c.args.self)
+    c.take_all.new.first (c.take_all.ensures.all _
     (all_out c.args.self.board.shared.table_id (own_of c.args.self) c.args.players.items c.as_slice.result.now
     c.as_slice.ensures.value c.args.seats.items c.args.self.first c.requires.seats c.requires.seated.first
     c.requires.seated.none)) c.requires.all c.requires.rest c.take_all.ensures.cleaner
     (λ alone. c.take_all.ensures.part (c.requires.seated.alone alone)) words slots final in
     (E.all_heard, _, E.reaches)
 
+pub close_table-log-requires-clause-lists : goal.close_table-log-requires-clause-lists
+close_table-log-requires-clause-lists g c = λ words slots final.
+    let E = closes g.L.Sectors.seen g.L.Sectors.gives g.D.Sectors.seen g.D.Sectors.gives c.args.self.board.shared.key
+    (heard_by c.args.seats.items) c.args.players.items c.as_slice.result.now c.as_slice.ensures.value
+    c.take_all.new.first (c.take_all.ensures.all _
+    (all_out c.args.self.board.shared.table_id (own_of c.args.self) c.args.players.items c.as_slice.result.now
+    c.as_slice.ensures.value c.args.seats.items c.args.self.first c.requires.seats c.requires.seated.first
+    c.requires.seated.none)) c.requires.all c.requires.rest c.take_all.ensures.cleaner
+    (λ alone. c.take_all.ensures.part (c.requires.seated.alone alone)) words slots final in
+    E.lists
+
 pub give_actors-actors-requires-clause-enough : goal.give_actors-actors-requires-clause-enough
 give_actors-actors-requires-clause-enough g c =
     let T = c.close_table-log.ensures in
     let E = closes g.L.Sectors.seen g.L.Sectors.gives g.D.Sectors.seen g.D.Sectors.gives c.args.self.board.shared.key
     (heard_by c.args.seats.items) c.args.players.items c.as_slice.result.now c.as_slice.ensures.value
-    c.take_all.new.first (c.take_all.ensures.all (own_of c.args.self)
+    c.take_all.new.first (c.take_all.ensures.all _
     (all_out c.args.self.board.shared.table_id (own_of c.args.self) c.args.players.items c.as_slice.result.now
     c.as_slice.ensures.value c.args.seats.items c.args.self.first c.requires.seats c.requires.seated.first
     c.requires.seated.none)) c.requires.all c.requires.rest c.take_all.ensures.cleaner
@@ -55,7 +66,7 @@ history_of-history-requires g c =
     let T = c.close_table-log.ensures in
     let E = closes g.L.Sectors.seen g.L.Sectors.gives g.D.Sectors.seen g.D.Sectors.gives c.args.self.board.shared.key
     (heard_by c.args.seats.items) c.args.players.items c.as_slice.result.now c.as_slice.ensures.value
-    c.take_all.new.first (c.take_all.ensures.all (own_of c.args.self)
+    c.take_all.new.first (c.take_all.ensures.all _
     (all_out c.args.self.board.shared.table_id (own_of c.args.self) c.args.players.items c.as_slice.result.now
     c.as_slice.ensures.value c.args.seats.items c.args.self.first c.requires.seats c.requires.seated.first
     c.requires.seated.none)) c.requires.all c.requires.rest c.take_all.ensures.cleaner
@@ -72,7 +83,7 @@ returns g c =
     let T = c.close_table-log.ensures in
     let E = closes g.L.Sectors.seen g.L.Sectors.gives g.D.Sectors.seen g.D.Sectors.gives c.args.self.board.shared.key
     (heard_by c.args.seats.items) c.args.players.items c.as_slice.result.now c.as_slice.ensures.value
-    c.take_all.new.first (c.take_all.ensures.all (own_of c.args.self)
+    c.take_all.new.first (c.take_all.ensures.all _
     (all_out c.args.self.board.shared.table_id (own_of c.args.self) c.args.players.items c.as_slice.result.now
     c.as_slice.ensures.value c.args.seats.items c.args.self.first c.requires.seats c.requires.seated.first
     c.requires.seated.none)) c.requires.all c.requires.rest c.take_all.ensures.cleaner
@@ -85,7 +96,10 @@ returns g c =
     c.close_table-log.result c.give_actors-actors.result.items F c.requires.fixed
     c.as_slice-2.result.now c.as_slice-2.ensures.value _
     (c.requires.seated.ready.room c.requires.fixed) c.history_of-history.result
-    (c.history_of-history.ensures c.requires.seated.ready.no_entries) in
+    (c.history_of-history.ensures (all_kept g.L.Sectors.seen g.L.Sectors.gives g.D.Sectors.seen g.D.Sectors.gives
+    c.args.self.board.shared.key (own_of c.args.self) (heard_by c.args.seats.items) c.args.players.items
+    c.close_table-log.result c.give_actors-actors.result.items F c.requires.fixed
+    c.as_slice-2.result.now c.as_slice-2.ensures.value) c.requires.seated.ready.no_entries) in
     let loss = its_losses c.args.self.board.shared.key.archive F.work c.args.players.items
     c.give_actors-actors.result.items F.are c.args.lost c.requires.lost in
     let own = leaves_own g.L.Sectors.seen g.L.Sectors.gives g.D.Sectors.seen g.D.Sectors.gives

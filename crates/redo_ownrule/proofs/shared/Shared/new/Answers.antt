@@ -1,8 +1,8 @@
 use Rattle.std.proofs.Common.{List, None, Option, Some, ap, arith, length, refl, subst, sym, ◌∙◌, ◌≡◌}
 use Rattle.std.specs.Prelude.{replicate}
 use Rattle.model_base.specs.declared.limits.TheConstants.{BLOCK_SIZE}
-use Rattle.model_own.specs.OwnWrites.{LogWork}
-use Rattle.redo_drive.specs.Making.{EndsWithReaders}
+use Rattle.model_own.specs.{LogWork}
+use Rattle.redo_drive.specs.Begins.{EndsWithReaders}
 use Rattle.redo_drive.specs.declared.actor.Actor.{Actor}
 use Rattle.redo_ownmachine.proofs.Begins.{have_workers}
 use Rattle.redo_ownrule.proofs.Opened.{opens_players, starts_are, unseated}

@@ -65,6 +65,8 @@ returns-in-Ok-make_board-clause-new g c =
       log_only_is = ap (λ (z : About _ _). z.log_only) made.key;
       own_is = ap (λ (z : About _ _). z.own_writes) made.key;
       archive_is = ap (λ (z : About _ _). z.archive) made.key;
+      followers_are = ap (λ (z : About _ _). z.followers) made.key;
+      layout_is = refl;
       actors_are =
           players_are g.L.Sectors.seen g.L.Sectors.gives g.D.Sectors.seen g.D.Sectors.gives g.R.Receiver.stands_for
           about live refl (c.of.ensures ∙ c.new.ensures.items) refl refl refl start B short c.in-Ok.field-0
