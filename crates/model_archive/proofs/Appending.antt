@@ -5,8 +5,7 @@ use Rattle.std.proofs.lemmas.Bool.Decides.{nat_tests}
 use Rattle.std.proofs.lemmas.List.Elements.{All-nil}
 use Rattle.model_base.specs.{IsWithinLimits}
 use Rattle.model_base.specs.declared.shape.Shape.{Shape}
-use Rattle.model_device.specs.{after_write, Covers, IsPutOrNot, IsSectorWrite, sector, settled, synced, written}
-use Rattle.model_device.specs.Disk.{Disk}
+use Rattle.model_device.specs.{after_write, Covers, IsPutOrNot, IsSectorWrite, sector, settled, synced, written, Disk}
 use Rattle.model_device.specs.declared.write.Write.{Write}
 use Rattle.model_device.proofs.Overwritten.{length-overwritten, part-overwritten_inside}
 use Rattle.model_log.specs.declared.group.Whole.{Whole}
@@ -14,7 +13,7 @@ use Rattle.model_log.specs.{block_of, blocks_between, IsAtDataStart, IsDataLsn, 
 use Rattle.model_page.specs.declared.content.Content.{Content}
 use Rattle.model_parts.proofs.Torn.{synced-stands}
 use Rattle.model_archive.specs.Holds.{ArchiveHolds, AreArchivedBlocks, HoldsUpTo, IsArchivedBlock, IsOlderMark, IsSteadyArchive}
-use Rattle.model_archive.specs.Layout.{archive_block, archive_length, archive_place, mark_place, pages_end, read_mark}
+use Rattle.model_archive.specs.Restore.{archive_block, archive_length, archive_place, mark_place, pages_end, read_mark}
 use Rattle.model_archive.specs.Marks.{after_asking}
 use Rattle.model_archive.specs.declared.marks.ArchMarks.{ArchMarks}
 use Rattle.model_archive.specs.Texts.{IsRunStart, other_mark_place}

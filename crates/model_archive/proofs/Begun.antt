@@ -8,8 +8,7 @@ use Rattle.std.proofs.lemmas.List.Elements.{All-nil}
 use Rattle.std.proofs.lemmas.Option.{slice_get_within}
 use Rattle.model_base.specs.{frame_length, IsPageSize, IsWithinLimits, overwritten}
 use Rattle.model_base.specs.declared.shape.Shape.{Shape}
-use Rattle.model_device.specs.{IsSectorWrite, sector, settled}
-use Rattle.model_device.specs.Disk.{Disk}
+use Rattle.model_device.specs.{IsSectorWrite, sector, settled, Disk}
 use Rattle.model_device.proofs.Overwritten.{length-overwritten, part-overwritten_before, part-overwritten_behind, part-overwritten_inside}
 use Rattle.model_log.specs.{block_of, blocks_between, IsDataLsn, sn_of}
 use Rattle.model_log.proofs.BoundaryLengths.{sn_of-header}
@@ -23,9 +22,8 @@ use Rattle.model_page.proofs.ReadBack.{page_check-page_text, user_part-page_text
 use Rattle.model_parts.proofs.Batches.{length-page_text}
 use Rattle.model_parts.proofs.Torn.{synced-stands}
 use Rattle.model_archive.specs.Holds.{ArchiveHolds, HoldsUpTo, IsBesideMark, IsOlderMark, IsSteadyArchive}
-use Rattle.model_archive.specs.Layout.{base_bytes, pages_end, read_archive_head, read_mark}
+use Rattle.model_archive.specs.Restore.{base_bytes, pages_end, read_archive_head, read_mark, AreBasePages}
 use Rattle.model_archive.specs.Marks.{begun_marks}
-use Rattle.model_archive.specs.Restore.{AreBasePages}
 use Rattle.model_archive.specs.Texts.{AreTexts, archive_head_text, base_text, begun_bytes, IsRunStart, mark_text}
 use Rattle.model_archive.proofs.Images.{PageStands, page-stands}
 use Rattle.model_archive.proofs.RoundTrips.{head-reads_back, length-head_text, length-mark_text, mark-elsewhere, mark-reads_back}

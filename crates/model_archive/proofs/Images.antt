@@ -7,8 +7,7 @@ use Rattle.std.proofs.lemmas.Bool.Decides.{nat_tests}
 use Rattle.model_base.specs.{IsWithinLimits, IsWholeSectors}
 use Rattle.model_base.specs.declared.shape.Shape.{Shape}
 use Rattle.model_base.proofs.ShapeLimits.{whole_sectors}
-use Rattle.model_device.specs.{IsImage, sector}
-use Rattle.model_device.specs.Disk.{Disk}
+use Rattle.model_device.specs.{IsImage, sector, Disk}
 use Rattle.model_log.specs.declared.group.Whole.{Whole}
 use Rattle.model_log.specs.declared.layout.TheConstants.{BLOCK_DATA}
 use Rattle.model_log.specs.{block_of, blocks_between, content_at, groups_of, IsAtDataStart, IsByte, IsDataLsn, IsRunOf, length_at, lsn_at, read_block, sn_of, stream_of}
@@ -20,8 +19,7 @@ use Rattle.model_page.specs.declared.content.Content.{Content}
 use Rattle.model_parts.proofs.Rows.{row_ends, row-sector}
 use Rattle.model_store.specs.{bytes_of, taken_from}
 use Rattle.model_archive.specs.Holds.{HoldsUpTo, IsArchivedBlock}
-use Rattle.model_archive.specs.Layout.{archive_block, archive_length, archive_place, base_bytes, pages_end}
-use Rattle.model_archive.specs.Restore.{AreBasePages, IsBasePage}
+use Rattle.model_archive.specs.Restore.{archive_block, archive_length, archive_place, base_bytes, pages_end, AreBasePages, IsBasePage}
 use Rattle.model_archive.proofs.Sectors.{stretch-sectors}
 use Rattle.model_archive.proofs.Stream.{GivesData, within-block}
 

@@ -1,7 +1,7 @@
 -- What a device archives of a run it archives of a longer one.
 use Rattle.std.proofs.Common.{◌≤◌, ℕ, inl, inr, List, ◌++◌, Option, Some, None, ⊎_elim, arith}
 use Rattle.model_base.specs.declared.shape.Shape.{Shape}
-use Rattle.model_device.specs.Disk.{Disk}
+use Rattle.model_device.specs.{Disk}
 use Rattle.model_log.specs.declared.group.Whole.{Whole}
 use Rattle.model_log.specs.{IsAtDataStart, IsRunOf, last_span_end, spans_of}
 use Rattle.model_log.proofs.BoundaryRound.{block-longer}

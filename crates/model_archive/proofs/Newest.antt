@@ -6,8 +6,7 @@ use Rattle.std.proofs.lemmas.Bool.{cases_Bool}
 use Rattle.std.proofs.lemmas.Bool.Decides.{nat_tests}
 use Rattle.std.proofs.lemmas.List.Elements.{All-head, All-tail}
 use Rattle.model_base.specs.declared.shape.Shape.{Shape}
-use Rattle.model_device.specs.{after_write, after_writes, AreSectorWrites, IsSectorWrite, IsWrittenBy, sector}
-use Rattle.model_device.specs.Disk.{Disk}
+use Rattle.model_device.specs.{after_write, after_writes, AreSectorWrites, IsSectorWrite, IsWrittenBy, sector, Disk}
 use Rattle.model_device.specs.MayHold.{MayHold}
 use Rattle.model_device.specs.declared.write.Write.{Write}
 use Rattle.model_device.proofs.Images.{sector-after_write}
@@ -15,14 +14,13 @@ use Rattle.model_device.proofs.Overwritten.{length-overwritten}
 use Rattle.model_log.specs.declared.group.Whole.{Whole}
 use Rattle.model_log.specs.{fits_checksum, groups_of, newer}
 use Rattle.model_page.specs.declared.content.Content.{Content}
-use Rattle.model_parts.specs.Held.{MayStand}
+use Rattle.model_parts.specs.{MayStand}
 use Rattle.model_store.specs.{IsStorable, IsWholeSector}
 use Rattle.model_archive.specs.Holds.{ArchiveHolds, HoldsUpTo, IsBesideMark}
-use Rattle.model_archive.specs.Layout.{mark_place, newest_mark, read_mark}
+use Rattle.model_archive.specs.Restore.{mark_place, newest_mark, read_mark, IsFairArchive}
 use Rattle.model_archive.specs.Reads.{ReadsArchive}
 use Rattle.model_archive.specs.declared.marks.ArchMarks.{ArchMarks}
 use Rattle.model_archive.specs.Texts.{other_mark_place}
-use Rattle.model_archive.specs.Fair.{IsFairArchive}
 use Rattle.model_archive.proofs.Restored.{restores-up_to}
 
 -- what stands in a sector after some writes: what stood there before, or what one of them put there

@@ -3,8 +3,7 @@ use Rattle.std.proofs.Common.{◌≡◌, ◌≤◌, ◌<◌, ◌+◌, ◌-◌, �
 use Rattle.std.proofs.lemmas.List.{take_all}
 use Rattle.std.proofs.lemmas.List.Elements.{All-nil}
 use Rattle.model_base.specs.declared.shape.Shape.{Shape}
-use Rattle.model_device.specs.{after_write, Covers, IsPutOrNot, IsSectorWrite, sector, settled, synced, written, written_sector}
-use Rattle.model_device.specs.Disk.{Disk}
+use Rattle.model_device.specs.{after_write, Covers, IsPutOrNot, IsSectorWrite, sector, settled, synced, written, written_sector, Disk}
 use Rattle.model_device.specs.declared.write.Write.{Write}
 use Rattle.model_device.proofs.Overwritten.{part-overwritten_inside}
 use Rattle.model_log.specs.declared.group.Whole.{Whole}
@@ -12,7 +11,7 @@ use Rattle.model_log.specs.{IsDataLsn}
 use Rattle.model_page.specs.declared.content.Content.{Content}
 use Rattle.model_parts.proofs.Torn.{synced-stands}
 use Rattle.model_archive.specs.Holds.{ArchiveHolds, HoldsUpTo, IsBesideMark, IsOlderMark, IsSteadyArchive}
-use Rattle.model_archive.specs.Layout.{archive_length, mark_place, read_mark}
+use Rattle.model_archive.specs.Restore.{archive_length, mark_place, read_mark}
 use Rattle.model_archive.specs.Marks.{after_append, after_asking}
 use Rattle.model_archive.specs.declared.marks.ArchMarks.{ArchMarks}
 use Rattle.model_archive.specs.Texts.{mark_text, other_mark_place}

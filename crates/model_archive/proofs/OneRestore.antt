@@ -8,9 +8,8 @@ use Rattle.model_page.specs.declared.content.Content.{Content}
 use Rattle.model_store.specs.{folded}
 use Rattle.model_store.proofs.OneScan.{OneGroup, front-no_storable, same_groups}
 use Rattle.model_store.proofs.Places.{has_place, same_places, same_some}
-use Rattle.model_archive.specs.Layout.{archive_length, newest_mark, read_archive_head}
+use Rattle.model_archive.specs.Restore.{archive_length, newest_mark, read_archive_head, archived_bytes, AreBasePages, base_lsn, block_count, block_lsn, ending_by, HasBadRecord, HasExtent, HasLongBlock, HasLongBlocks, IsArchive, IsBasePage, IsMissing, IsOutOf, IsReachedBy, IsRestored, RefusesRestore}
 use Rattle.model_archive.specs.declared.extent.Extent.{Extent}
-use Rattle.model_archive.specs.Restore.{archived_bytes, AreBasePages, base_lsn, block_count, block_lsn, ending_by, HasBadRecord, HasExtent, HasLongBlock, HasLongBlocks, IsArchive, IsBasePage, IsMissing, IsOutOf, IsReachedBy, IsRestored, RefusesRestore}
 use Rattle.model_archive.specs.declared.refusal.RestoreRefusal.{RestoreRefusal}
 use Rattle.model_archive.specs.declared.refusal.RestoreRefusal.TheVariants.{Missing, To, Page, Block, Record}
 

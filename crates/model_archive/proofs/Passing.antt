@@ -5,10 +5,9 @@ use Rattle.std.proofs.lemmas.Bool.Decides.{nat_tests}
 use Rattle.model_base.proofs.ShapeLimits.{is_within_limits_facts}
 use Rattle.model_base.specs.{field, is_within_limits, IsWithinLimits}
 use Rattle.model_base.specs.declared.shape.Shape.{Shape}
-use Rattle.model_log.specs.Block.{fits_checksum}
-use Rattle.model_log.specs.{IsDataLsn, newer, shape_of}
+use Rattle.model_log.specs.{fits_checksum, IsDataLsn, newer, shape_of}
 use Rattle.model_store.proofs.Places.{same_some}
-use Rattle.model_archive.specs.Layout.{is_mark_lsn, is_run_start, mark_place, read_archive_head, read_mark}
+use Rattle.model_archive.specs.Restore.{is_mark_lsn, is_run_start, mark_place, read_archive_head, read_mark}
 use Rattle.model_archive.specs.Texts.{IsRunStart}
 
 when-head : (t : Bool) (found : ℕ × Shape) (s : ℕ) (shape : Shape)

@@ -3,8 +3,7 @@ use Rattle.std.proofs.Common.{◌≡◌, ◌≤◌, ◌<◌, ◌+◌, ◌-◌, �
 use Rattle.std.specs.List.{AllByRecursion}
 use Rattle.model_base.specs.{IsWithinLimits}
 use Rattle.model_base.specs.declared.shape.Shape.{Shape}
-use Rattle.model_device.specs.{IsImage}
-use Rattle.model_device.specs.Disk.{Disk}
+use Rattle.model_device.specs.{IsImage, Disk}
 use Rattle.model_log.specs.declared.group.Whole.{Whole}
 use Rattle.model_log.specs.{block_of, blocks_between, groups_of, IsDataLsn, IsRunOf, last_span_end, lsn_at, sn_of, spans_of, stream_between, stream_of}
 use Rattle.model_log.proofs.BoundaryLengths.{sn_of-header, sn_of-rises, stream_between-is}
@@ -14,11 +13,9 @@ use Rattle.model_parts.proofs.Bytes.{stream-bytes}
 use Rattle.model_parts.proofs.Splits.{Cuts, cut-at}
 use Rattle.model_store.specs.{folded, IsStorable}
 use Rattle.model_archive.specs.Holds.{HoldsUpTo, IsArchivedBlock}
-use Rattle.model_archive.specs.Layout.{archive_block, archive_length, newest_mark, read_archive_head}
+use Rattle.model_archive.specs.Restore.{archive_block, archive_length, newest_mark, read_archive_head, archived_at, archived_bytes, data_of_blocks, ending_by, IsArchive, RestoresUpTo}
 use Rattle.model_archive.specs.declared.extent.Extent.{Extent}
-use Rattle.model_archive.specs.Restore.{archived_at, archived_bytes, data_of_blocks, ending_by, IsArchive}
 use Rattle.model_archive.specs.Texts.{IsRunStart}
-use Rattle.model_archive.specs.Fair.{RestoresUpTo}
 use Rattle.model_archive.proofs.Ending.{cut-ending}
 use Rattle.model_archive.proofs.Images.{between-block, gives-data, image-block, image-page, ReadsBlock, reads-block, same-pages, settled-sector, starts-below}
 use Rattle.model_archive.proofs.Stream.{blocks-stream}

@@ -10,11 +10,10 @@ use Rattle.byteorder.specs.Numbers.{big_number-reads_back}
 use Rattle.model_base.proofs.ShapeLimits.{is_within_limits_true, whole_sectors}
 use Rattle.model_base.specs.{field, is_within_limits, IsWithinLimits, padded_to}
 use Rattle.model_base.specs.declared.shape.Shape.{Shape}
-use Rattle.model_log.specs.Block.{with_checksum, fits_checksum}
-use Rattle.model_log.specs.{IsDataLsn, shape_of}
+use Rattle.model_log.specs.{with_checksum, fits_checksum, IsDataLsn, shape_of}
 use Rattle.model_log.proofs.Checksums.{IsByte, bytes-bytes_high_first}
 use Rattle.model_log.proofs.Sealed.{bytes-padded, field-padded, fits_checksum-sealed, length-padded, length-sealed}
-use Rattle.model_archive.specs.Layout.{is_mark_lsn, is_run_start, mark_place, read_archive_head, read_mark}
+use Rattle.model_archive.specs.Restore.{is_mark_lsn, is_run_start, mark_place, read_archive_head, read_mark}
 use Rattle.model_archive.specs.Texts.{archive_creator, archive_head_text, IsRunStart, mark_text, other_mark_place}
 
 -- THE MARK.

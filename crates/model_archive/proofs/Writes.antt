@@ -2,20 +2,18 @@
 use Rattle.std.proofs.Common.{◌≡◌, ◌<◌, ◌+◌, ◌*◌, ◌%◌, ◌⊎◌, ℕ, inl, inr, List, [], ◌∷◌, ◌++◌, length, Option, Some, None, sym, ap, subst, ◌∙◌, ⊎_elim, arith}
 use Rattle.model_base.specs.{IsWithinLimits}
 use Rattle.model_base.specs.declared.shape.Shape.{Shape}
-use Rattle.model_device.specs.{after_write, Covers, IsCovered, IsPutOrNot, IsSectorWrite, sector, settled, synced, written}
-use Rattle.model_device.specs.Disk.{Disk}
+use Rattle.model_device.specs.{after_write, Covers, IsCovered, IsPutOrNot, IsSectorWrite, sector, settled, synced, written, Disk}
 use Rattle.model_device.specs.declared.write.Write.{Write}
 use Rattle.model_device.proofs.Images.{sector-after_write}
 use Rattle.model_device.proofs.Overwritten.{length-overwritten}
 use Rattle.model_log.specs.declared.group.Whole.{Whole}
 use Rattle.model_log.specs.{block_of, lsn_at}
 use Rattle.model_page.specs.declared.content.Content.{Content}
-use Rattle.model_parts.specs.Held.{MayStand}
+use Rattle.model_parts.specs.{MayStand}
 use Rattle.model_parts.proofs.Torn.{AddsTorn, IsWhole, put-torn, synced-stands}
 use Rattle.model_archive.specs.Holds.{ArchiveHolds, HoldsUpTo, IsArchivedBlock, IsBesideMark, IsOlderMark, IsSteadyArchive}
-use Rattle.model_archive.specs.Layout.{archive_block, archive_length, base_bytes, mark_place, pages_end, read_archive_head, read_mark}
+use Rattle.model_archive.specs.Restore.{archive_block, archive_length, base_bytes, mark_place, pages_end, read_archive_head, read_mark, AreBasePages}
 use Rattle.model_archive.specs.Marks.{after_asking}
-use Rattle.model_archive.specs.Restore.{AreBasePages}
 use Rattle.model_archive.specs.declared.marks.ArchMarks.{ArchMarks}
 use Rattle.model_archive.specs.Texts.{other_mark_place}
 use Rattle.model_archive.proofs.Images.{block-is, page-stands, PageStands, pages-sector, same-pages}

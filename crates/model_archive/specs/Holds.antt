@@ -3,16 +3,13 @@ use Rattle.std.specs.Prelude.{ℕ, ◌≡◌, ◌≤◌, ◌<◌, ◌+◌, ◌*�
 use Rattle.model_base.specs.{IsWithinLimits}
 use Rattle.model_base.specs.declared.shape.Shape.{Shape}
 use Rattle.model_base.specs.declared.limits.TheConstants.{BLOCK_SIZE, LSN_LIMIT}
-use Rattle.model_device.specs.{AreSectorWrites, IsCovered, sector}
-use Rattle.model_device.specs.Disk.{Disk}
+use Rattle.model_device.specs.{AreSectorWrites, IsCovered, sector, Disk}
 use Rattle.model_log.specs.declared.group.Whole.{Whole}
 use Rattle.model_log.specs.{block_of, blocks_between, IsBoundary, IsBoundaryBlock, IsDataLsn, IsRunOf, last_span_end, lsn_at, spans_of}
 use Rattle.model_page.specs.declared.content.Content.{Content}
-use Rattle.model_parts.specs.Held.{MayStand}
+use Rattle.model_parts.specs.{MayStand, HasNothingPending}
 use Rattle.model_parts.specs.Marks.{NEXT_DATA}
-use Rattle.model_parts.specs.Stored.{HasNothingPending}
-use Rattle.model_archive.specs.Layout.{archive_block, archive_length, mark_place, read_archive_head, read_mark}
-use Rattle.model_archive.specs.Restore.{AreBasePages}
+use Rattle.model_archive.specs.Restore.{archive_block, archive_length, mark_place, read_archive_head, read_mark, AreBasePages}
 use Rattle.model_archive.specs.Texts.{IsRunStart, other_mark_place}
 use Rattle.model_archive.specs.declared.marks.ArchMarks.{ArchMarks}
 

@@ -2,8 +2,7 @@
 use Rattle.std.specs.Prelude.{ℕ, ◌≡◌, ◌+◌, ◌⊎◌, List, Some}
 use Rattle.model_log.specs.declared.group.Whole.{Whole}
 use Rattle.model_page.specs.declared.content.Content.{Content}
-use Rattle.model_archive.specs.Fair.{RestoresUpTo}
-use Rattle.model_archive.specs.Layout.{newest_mark}
+use Rattle.model_archive.specs.Restore.{RestoresUpTo, newest_mark}
 use Rattle.model_archive.specs.declared.marks.ArchMarks.{ArchMarks}
 
 -- the newest mark on the image is the newest good one, or the one asked for last with the next number, and up to there

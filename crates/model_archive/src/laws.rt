@@ -3,17 +3,16 @@ ghost use Rattle.std.specs.Prelude.{◌≡◌, ◌≤◌, ◌<◌, ◌+◌, ◌*
 ghost use Rattle.std.specs.List.{AllByRecursion};
 ghost use Rattle.model_base.specs.declared.limits.TheConstants.{BLOCK_SIZE};
 ghost use Rattle.model_base.specs.declared.shape.Shape.{Shape};
-ghost use Rattle.model_device.specs.Disk.{Disk};
+ghost use Rattle.model_device.specs.{Disk};
 ghost use Rattle.model_log.specs.{block_of, blocks_between, groups_of, IsAtDataStart, IsBoundary, IsBoundaryBlock, IsRunOf, last_span_end, spans_of};
 ghost use Rattle.model_log.specs.declared.group.Whole.{Whole};
 ghost use Rattle.model_page.specs.declared.content.Content.{Content};
 ghost use Rattle.model_store.specs.{folded, IsStorable};
 ghost use Rattle.model_archive.specs.Holds.{ArchiveHolds, AreArchivedBlocks, IsArchivedBlock};
 ghost use Rattle.model_archive.specs.Reads.{ReadsArchive};
-ghost use Rattle.model_archive.specs.Restore.{ending_by, IsRestored, RefusesRestore};
+ghost use Rattle.model_archive.specs.Restore.{ending_by, IsRestored, RefusesRestore, IsFairArchive, RestoresUpTo};
 ghost use Rattle.model_archive.specs.declared.marks.ArchMarks.{ArchMarks};
 ghost use Rattle.model_archive.specs.declared.refusal.RestoreRefusal.{RestoreRefusal};
-ghost use Rattle.model_archive.specs.Fair.{IsFairArchive, RestoresUpTo};
 
 use model_log::one_group;
 

@@ -9,7 +9,6 @@ polynomial = 0x82F6_3B78
 unfoldable pub after_bit : ℕ → ℕ
 after_bit register = if register % 2 == 1 then bit_xor (register / 2) polynomial else register / 2
 
--- the register after eight bits
 unfoldable pub after_eight_bits : ℕ → ℕ
 after_eight_bits register =
     after_bit (after_bit (after_bit (after_bit (after_bit (after_bit (after_bit (after_bit register)))))))

@@ -1,11 +1,9 @@
 -- What the Op that an actor asks for tells of it: that it holds nothing, that it is the cleaner, that it is a user.
 use Rattle.std.proofs.Common.{Bool, None, cond, false, inl, inr, refl, true, ◌≡◌, ◌⊎◌}
-use Rattle.model_core.specs.{Actor, Advance, checkpointer_op, CheckpointerState, cleaner_op, CleanerState, closer_op, CloserState, flusher_op, FlusherState, next, user_op, UserState, writer_op, WriterState}
-use Rattle.model_core.specs.{reader_op, ReaderState}
-use Rattle.model_core.specs.Actors as actor
-use Rattle.model_core.specs.Advancing.{advance_op}
-use Rattle.model_core.specs.Holding.{advance_holds}
-use Rattle.model_core.specs.Holding.{closer_holds_tail, user_holds_tail, writer_holds_tail}
+use Rattle.model_core.specs.{Actor, Advance, checkpointer_op, CheckpointerState, cleaner_op, CleanerState, closer_op, CloserState, flusher_op, FlusherState, next, user_op, UserState, writer_op, WriterState, reader_op, ReaderState}
+use Rattle.model_core.specs.States as actor
+use Rattle.model_core.specs.LogPrograms.{advance_op}
+use Rattle.model_core.specs.Hands.{advance_holds, closer_holds_tail, user_holds_tail, writer_holds_tail, HoldsNothing, IsFreeOp, IsFreeToCheck, checkpointer_hand, cleaner_hand, flusher_hand, user_hand, writer_hand, reader_hand}
 use Rattle.model_core.specs.declared.ops.Op.{Op}
 use Rattle.model_core.specs.declared.ops.Op.TheVariants as op
 use Rattle.model_core.specs.declared.words.Word.TheVariants as word
@@ -28,8 +26,6 @@ use Rattle.model_core.specs.declared.steps.WriterStep.TheVariants as writer_step
 use Rattle.model_core.specs.declared.words.LinkBuffer.{LinkBuffer}
 use Rattle.model_core.specs.declared.words.LinkBuffer.TheVariants as link_buffer
 use Rattle.model_core.proofs.TurnWords.{advance_asks}
-use Rattle.model_core.specs.Hands.{HoldsNothing, IsFreeOp, IsFreeToCheck, checkpointer_hand, cleaner_hand, flusher_hand, user_hand, writer_hand}
-use Rattle.model_core.specs.Hands.{reader_hand}
 
 -- whoever asks for such an Op holds no slot
 user_frees : (u : UserState) (f : UserStep) → IsFreeOp (user_op u f) → user_hand u f ≡ None

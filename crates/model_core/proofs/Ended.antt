@@ -1,18 +1,13 @@
 -- An actor that has ended asks for nothing, and stays as it is.
 use Rattle.std.proofs.Common.{ap, refl, ℕ, ◌≡◌}
-use Rattle.model_core.specs.Actors.{Actor}
-use Rattle.model_core.specs.Answers.{heard}
-use Rattle.model_core.specs.CheckpointerProgram.{checkpointer_ending, checkpointer_op, checkpointer_took}
-use Rattle.model_core.specs.CleanerProgram.{cleaner_ending, cleaner_op, cleaner_took}
-use Rattle.model_core.specs.CloserProgram.{closer_ending, closer_op, closer_took}
-use Rattle.model_core.specs.FlusherProgram.{flusher_ending, flusher_op, flusher_took}
+use Rattle.model_core.specs.States.{Actor, CheckpointerState, CleanerState, CloserState, FlusherState, UserState, WriterState, ReaderState}
+use Rattle.model_core.specs.ActorProgram.{heard}
+use Rattle.model_core.specs.PagePrograms.{checkpointer_ending, checkpointer_op, checkpointer_took, cleaner_ending, cleaner_op, cleaner_took}
+use Rattle.model_core.specs.LogPrograms.{closer_ending, closer_op, closer_took, flusher_ending, flusher_op, flusher_took, writer_ending, writer_op, writer_took}
 use Rattle.model_core.specs.ReaderProgram.{reader_ending, reader_op, reader_took}
 use Rattle.model_core.specs.Program.{own_op, own_took}
-use Rattle.model_core.specs.States.{CheckpointerState, CleanerState, CloserState, FlusherState, UserState, WriterState}
-use Rattle.model_core.specs.States.{ReaderState}
 use Rattle.model_core.specs.UserProgram.{user_ending, user_op, user_took}
-use Rattle.model_core.specs.Holding.{HasStopped}
-use Rattle.model_core.specs.WriterProgram.{writer_ending, writer_op, writer_took}
+use Rattle.model_core.specs.Hands.{HasStopped}
 use Rattle.model_core.specs.declared.ops.Answer.{Answer}
 use Rattle.model_core.specs.declared.ops.Op.{Op}
 use Rattle.model_core.specs.declared.steps.CheckpointerStep.{CheckpointerStep}
@@ -22,7 +17,7 @@ use Rattle.model_core.specs.declared.steps.FlusherStep.{FlusherStep}
 use Rattle.model_core.specs.declared.steps.ReaderStep.{ReaderStep}
 use Rattle.model_core.specs.declared.steps.UserStep.{UserStep}
 use Rattle.model_core.specs.declared.steps.WriterStep.{WriterStep}
-use Rattle.model_core.specs.Actors as actor
+use Rattle.model_core.specs.States as actor
 use Rattle.model_core.specs.declared.ops.Op.TheVariants as op
 use Rattle.model_core.specs.declared.ops.Step.TheVariants as step
 use Rattle.model_core.specs.declared.steps.CheckpointerStep.TheVariants as checkpointer_step

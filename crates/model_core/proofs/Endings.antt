@@ -3,12 +3,10 @@ use Rattle.std.proofs.Common.{Bool, ap, cond, false, inl, inr, refl, subst, sym,
 use Rattle.model_core.proofs.Later.{took_later, was_user}
 use Rattle.model_core.proofs.Rests.{rests}
 use Rattle.model_core.proofs.Waiting.{user_again, user_wait, wait_checks}
-use Rattle.model_core.specs.{checked, checked_of, heard, is_checking, next, old_of, own_op, own_took, step_of, took, user_program, user_took, UserState}
-use Rattle.model_core.specs.Actors as model
+use Rattle.model_core.specs.{checked, checked_of, heard, is_checking, next, old_of, own_op, own_took, step_of, took, user_program, user_took, UserState, checkpointer_ending, cleaner_ending, closer_ending, flusher_ending, user_ending, user_waits, writer_ending, reader_ending}
+use Rattle.model_core.specs.States as model
 use Rattle.model_core.specs.Later.{IsSameActor}
-use Rattle.model_core.specs.{checkpointer_ending, cleaner_ending, closer_ending, flusher_ending, user_ending, user_waits, writer_ending}
-use Rattle.model_core.specs.{reader_ending}
-use Rattle.model_core.specs.Waiting.{ending, waits}
+use Rattle.model_core.specs.Program.{ending, waits}
 use Rattle.model_core.specs.declared.ops.Answer.{Answer}
 use Rattle.model_core.specs.declared.ops.Answer.TheVariants as answer
 use Rattle.model_core.specs.declared.ops.Op.{Op}

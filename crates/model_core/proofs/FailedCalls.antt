@@ -1,9 +1,8 @@
 -- Who gives the log part back after a failed call.
 use Rattle.std.proofs.Common.{Bool, None, Option, Some, ap, cond, false, refl, sym, true, ℕ, ⊎_elim, ◌==◌, ◌∙◌, ◌≡◌}
-use Rattle.model_core.specs.{checked_of, checkpointer_op, checkpointer_program, checkpointer_took, CheckpointerState, cleaner_program, cleaner_took, closer_program, closer_took, flusher_op, flusher_program, flusher_took, FlusherState, heard, is_checking, next, old_of, took, user_program, user_took, writer_op, writer_program, writer_took, WriterState}
-use Rattle.model_core.specs.{reader_op, reader_program, reader_took, ReaderState}
-use Rattle.model_core.specs.Actors as actor
-use Rattle.model_core.specs.Actors.{Actor}
+use Rattle.model_core.specs.{checked_of, checkpointer_op, checkpointer_program, checkpointer_took, CheckpointerState, cleaner_program, cleaner_took, closer_program, closer_took, flusher_op, flusher_program, flusher_took, FlusherState, heard, is_checking, next, old_of, took, user_program, user_took, writer_op, writer_program, writer_took, WriterState, reader_op, reader_program, reader_took, ReaderState}
+use Rattle.model_core.specs.States as actor
+use Rattle.model_core.specs.States.{Actor}
 use Rattle.model_core.specs.declared.ops.Answer.{Answer}
 use Rattle.model_core.specs.declared.ops.Op.TheVariants as op
 use Rattle.model_core.specs.declared.words.Word.TheVariants as word
@@ -15,10 +14,8 @@ use Rattle.model_core.specs.declared.steps.FlusherStep.TheVariants as flusher_st
 use Rattle.model_core.specs.declared.steps.ReaderStep.TheVariants as reader_step
 use Rattle.model_core.specs.declared.steps.WriterStep.{WriterStep}
 use Rattle.model_core.specs.declared.steps.WriterStep.TheVariants as writer_step
-use Rattle.model_core.proofs.FailedSteps.{checkpointer_near_or, checkpointer_on, checkpointer_quiet, flusher_near_or, flusher_on, flusher_quiet, writer_near_or, writer_on, writer_quiet}
-use Rattle.model_core.proofs.FailedSteps.{reader_near_or, reader_on, reader_quiet}
-use Rattle.model_core.specs.Hands.{checkpointer_hand, flusher_hand, GivesFailed, hand, IsFreeToCheck, writer_hand}
-use Rattle.model_core.specs.Hands.{reader_hand}
+use Rattle.model_core.proofs.FailedSteps.{checkpointer_near_or, checkpointer_on, checkpointer_quiet, flusher_near_or, flusher_on, flusher_quiet, writer_near_or, writer_on, writer_quiet, reader_near_or, reader_on, reader_quiet}
+use Rattle.model_core.specs.Hands.{checkpointer_hand, flusher_hand, GivesFailed, hand, IsFreeToCheck, writer_hand, reader_hand}
 
 -- who gives the log part back after a failed call has just stored its code: it was about to
 abbrev pub HasStored : Actor → ℕ → Type 0

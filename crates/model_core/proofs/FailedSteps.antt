@@ -1,23 +1,16 @@
 -- Which turns of an actor end by a failure, by its program.
 use Rattle.std.proofs.Common.{Bool, List, [], ap, cond, false, inl, inr, length, refl, sym, true, ℕ, ⊎_elim, ◌*◌, ◌++◌, ◌+◌, ◌-◌, ◌/◌, ◌==◌, ◌∙◌, ◌∷◌, ◌≡◌, ◌⊎◌}
 use Rattle.std.specs.Prelude.{nat_le, nat_lt}
-use Rattle.model_core.specs.FlusherProgram.{flusher_ending}
+use Rattle.model_core.specs.LogPrograms.{flusher_ending, closer_ending, finds_no_more, writer_ending, advance_next, ends, frees, stays_put}
 use Rattle.model_core.specs.ReaderProgram.{archives, followed, has_all, is_none, reader_ending, to_append}
-use Rattle.model_core.specs.CloserProgram.{closer_ending}
-use Rattle.model_core.specs.CleanerProgram.{cleaner_ending}
-use Rattle.model_core.specs.CheckpointerProgram.{checkpointer_ending}
-use Rattle.model_core.specs.Answers.{on_call, on_take}
-use Rattle.model_core.specs.Groups.{CellWrite}
-use Rattle.model_core.specs.{after_link, answered, can_close, can_link, candidate, cells_of, change_at, changes, checkpointer_op, checkpointer_took, CheckpointerState, cleaner_op, cleaner_took, CleanerState, closer_op, closer_took, CloserState, end_round, flusher_op, flusher_took, FlusherState, frame_count, group_bytes, group_end, has_log_space, has_passed, has_room, has_space, has_taken, has_whole_word, heard, is_above, is_checking, is_whole, lane_of, lanes, left_in_word, lowered, lsn, mode, next_count, next_in_round, old_of, oldest_in, page_loaded, read_place, stands_outside, step_of, to_next_page, user_op, user_took, UserState, with_mark, word_end, word_step, writer_op, writer_took, WriterState}
-use Rattle.model_core.specs.{reader_op, reader_took, ReaderState}
-use Rattle.model_core.specs.{own_op, own_took}
-use Rattle.model_core.specs.Actors as actor
-use Rattle.model_core.specs.Advancing.{advance_next, ends, frees, stays_put}
-use Rattle.model_core.specs.Tails.{tail_of}
+use Rattle.model_core.specs.PagePrograms.{cleaner_ending, checkpointer_ending}
+use Rattle.model_core.specs.ActorProgram.{on_call, on_take}
+use Rattle.model_core.specs.States.{CellWrite, Actor}
+use Rattle.model_core.specs.{after_link, answered, can_close, can_link, candidate, cells_of, change_at, changes, checkpointer_op, checkpointer_took, CheckpointerState, cleaner_op, cleaner_took, CleanerState, closer_op, closer_took, CloserState, end_round, flusher_op, flusher_took, FlusherState, frame_count, group_bytes, group_end, has_log_space, has_passed, has_room, has_space, has_taken, has_whole_word, heard, is_above, is_checking, is_whole, lane_of, lanes, left_in_word, lowered, lsn, mode, next_count, next_in_round, old_of, oldest_in, page_loaded, read_place, stands_outside, step_of, to_next_page, user_op, user_took, UserState, with_mark, word_end, word_step, writer_op, writer_took, WriterState, reader_op, reader_took, ReaderState, own_op, own_took}
+use Rattle.model_core.specs.States as actor
+use Rattle.model_core.specs.Lanes.{tail_of}
 use Rattle.model_core.specs.UserProgram.{user_ending, with_close_room, with_link_room, without_close_room, without_link_room}
-use Rattle.model_core.specs.WriterProgram.{finds_no_more, writer_ending}
-use Rattle.model_core.specs.Actors.{Actor}
-use Rattle.model_core.specs.Waiting.{ending, waits}
+use Rattle.model_core.specs.Program.{ending, waits}
 use Rattle.model_core.specs.declared.limits.TheConstants.{WORD_LANES}
 use Rattle.model_core.specs.declared.ops.Answer.{Answer}
 use Rattle.model_core.specs.declared.ops.Answer.TheVariants as answer

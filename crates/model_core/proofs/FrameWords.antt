@@ -9,8 +9,9 @@ use Rattle.model_base.specs.{IsPageSize}
 use Rattle.model_core.proofs.Groups.{back, front}
 use Rattle.model_core.proofs.Lanes.{lane_of_zero, lane_read, lane_small, lanes_are, lanes_long}
 use Rattle.model_core.proofs.PageSizes.{frame_fills}
-unfoldable use Rattle.model_core.specs.Packing.{lane, lanes, packed}
-use Rattle.model_core.specs.Groups.{CellWrite}
+unfoldable use Rattle.model_core.specs.Packing.{lane}
+unfoldable use Rattle.model_core.specs.Lanes.{lanes, packed}
+use Rattle.model_core.specs.States.{CellWrite}
 use Rattle.model_core.specs.Layout.{frame_words}
 use Rattle.model_core.specs.Packing.{frame_bytes, framed_page}
 use Rattle.model_core.specs.UserProgram.{put_lanes, same_word}

@@ -3,7 +3,7 @@ use Rattle.std.proofs.Common.{Bool, List, [], ap, append-nil, append_assoc, arit
 use Rattle.std.specs.Prelude.{slice_index}
 use lib.ListN.{get_elem?}
 use native.Mathlib.Decide.{dec_le}
-use Rattle.model_core.specs.Groups.{Entry, end_of}
+use Rattle.model_core.specs.States.{Entry, end_of}
 use Rattle.model_core.specs.Stream.{IsBound, Tiles, byte_at, crosses, crossing, first_of, stream, sum_of}
 use mathlib.Core.Option as maybe
 use Rattle.model_log.specs.declared.layout.TheConstants.{BLOCK_DATA}

@@ -1,18 +1,16 @@
 -- What each Op does with what its actor holds.
 use Rattle.std.proofs.Common.{Bool, List, None, Option, Some, suc, ◌%◌, [], cond, drop, false, inl, inr, length, refl, sym, true, ℕ, ⊎_elim, ◌*◌, ◌++◌, ◌+◌, ◌-◌, ◌/◌, ◌==◌, ◌∙◌, ◌∷◌, ◌≡◌, ◌⊎◌}
 use Rattle.std.specs.Prelude.{min, nat_le, nat_lt}
-use Rattle.model_core.specs.Answers.{on_take}
+use Rattle.model_core.specs.ActorProgram.{on_take}
 use Rattle.model_core.specs.declared.limits.TheConstants.{FLUSH_LISTS, WORD_LANES}
-use Rattle.model_core.specs.Groups.{CellWrite}
-use Rattle.model_core.specs.{Actor, Advance, after_link, answered, can_close, can_link, cells_of, change_at, changes, checkpointer_op, checkpointer_took, CheckpointerState, cleaner_op, cleaner_took, CleanerState, closer_op, closer_took, CloserState, candidate, end_round, flusher_op, flusher_took, FlusherState, group_bytes, group_end, frame_count, has_log_space, has_passed, has_room, has_space, has_taken, has_whole_word, is_whole, lane_of, lanes, left_in_word, next_count, word_end, word_step, heard, is_above, is_checking, lowered, lsn, mode, next, next_in_round, old_of, oldest_in, page_loaded, read_place, stands_outside, to_next_page, took, user_op, user_took, UserState, with_mark, writer_op, writer_took, WriterState}
+use Rattle.model_core.specs.States.{CellWrite}
+use Rattle.model_core.specs.{Actor, Advance, after_link, answered, can_close, can_link, cells_of, change_at, changes, checkpointer_op, checkpointer_took, CheckpointerState, cleaner_op, cleaner_took, CleanerState, closer_op, closer_took, CloserState, candidate, end_round, flusher_op, flusher_took, FlusherState, group_bytes, group_end, frame_count, has_log_space, has_passed, has_room, has_space, has_taken, has_whole_word, is_whole, lane_of, lanes, left_in_word, next_count, word_end, word_step, heard, is_above, is_checking, lowered, lsn, mode, next, next_in_round, old_of, oldest_in, page_loaded, read_place, stands_outside, to_next_page, took, user_op, user_took, UserState, with_mark, writer_op, writer_took, WriterState, reader_op, reader_took, ReaderState}
 use Rattle.model_core.specs.ReaderProgram.{archives, followed, has_all, is_none, to_append}
-use Rattle.model_core.specs.{reader_op, reader_took, ReaderState}
-use Rattle.model_core.specs.Actors as actor
+use Rattle.model_core.specs.States as actor
 use Rattle.model_core.proofs.TailsFree.{took_free}
-use Rattle.model_core.specs.Advancing.{advance_next, advance_op, ends, frees, stays_put}
-use Rattle.model_core.specs.Tails.{tail_of}
+use Rattle.model_core.specs.LogPrograms.{advance_next, advance_op, ends, frees, stays_put, finds_no_more}
+use Rattle.model_core.specs.Lanes.{tail_of}
 use Rattle.model_core.specs.UserProgram.{with_close_room, with_link_room, without_close_room, without_link_room}
-use Rattle.model_core.specs.WriterProgram.{finds_no_more}
 use Rattle.model_core.specs.declared.ops.Answer.{Answer}
 use Rattle.model_core.specs.declared.ops.Answer.TheVariants as answer
 use Rattle.model_core.specs.declared.ops.Op.{Op}
@@ -37,8 +35,7 @@ use Rattle.model_core.specs.declared.steps.WriterStep.TheVariants as writer_step
 use Rattle.model_core.specs.declared.words.LinkBuffer.{LinkBuffer}
 use Rattle.model_core.specs.declared.words.LinkBuffer.TheVariants as link_buffer
 use Rattle.model_log.specs.declared.layout.TheConstants.{BLOCK_DATA}
-use Rattle.model_core.specs.Hands.{IsFreeToCheck, checkpointer_hand, cleaner_hand, flusher_hand, hand, user_hand, writer_hand}
-use Rattle.model_core.specs.Hands.{reader_hand}
+use Rattle.model_core.specs.Hands.{IsFreeToCheck, checkpointer_hand, cleaner_hand, flusher_hand, hand, user_hand, writer_hand, reader_hand}
 
 -- what an Op does with what its actor holds, which is `before`, and after an answer `behind` of it
 abbrev pub Handles : Op → Option ℕ → (Answer → Option ℕ) → Type 0

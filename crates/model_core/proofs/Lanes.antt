@@ -9,9 +9,9 @@ use Rattle.std.specs.Prelude.{get_or, min, replicate, slice_index}
 use native.Mathlib.Decide.{dec_le}
 use Rattle.model_core.proofs.Groups.{back, front}
 use Rattle.model_core.proofs.Lsns.{ring_same}
-use Rattle.model_core.specs.Lanes.{cell_of, lane_of, left_in_word}
-unfoldable use Rattle.model_core.specs.Packing.{lane, lanes, packed}
-use Rattle.model_core.specs.Lsn.{floor, lsn}
+use Rattle.model_core.specs.Lanes.{cell_of, lane_of, left_in_word, floor, lsn}
+unfoldable use Rattle.model_core.specs.Packing.{lane}
+unfoldable use Rattle.model_core.specs.Lanes.{lanes, packed}
 use Rattle.model_core.specs.States.{UserState}
 use Rattle.model_core.specs.UserProgram.{copy_place, group_bytes, next_bytes, next_count}
 use Rattle.model_core.specs.declared.limits.TheConstants.{BUFFER_WORDS, LOG_BUFFER}

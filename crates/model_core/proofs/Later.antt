@@ -1,11 +1,8 @@
 -- The same actor, later: what every Op keeps.
-use Rattle.std.proofs.Common.{Bool, List, [], ap, append-nil, append_assoc, arith, cond, false, length, refl}
-use Rattle.std.proofs.Common.{subst, sym, true, ℕ}
-use Rattle.std.proofs.Common.{◌++◌, ◌+◌, ◌==◌, ◌≤◌, ◌∙◌, ◌∷◌, ◌≡◌}
-use Rattle.model_core.specs.{after_link, answered, can_close, can_link, changes, checked_of, checkpointer_program, checkpointer_took, cleaner_program, cleaner_took, closer_program, closer_took, flusher_program, flusher_took, has_passed, has_room, has_space, heard, mode, old_of, tail_of, to_next_page, took, user_program, user_took, UserState, with_mark, writer_program, writer_took}
-use Rattle.model_core.specs.{reader_program, reader_took}
-use Rattle.model_core.specs.Actors as model
-use Rattle.model_core.specs.Actors.{Actor}
+use Rattle.std.proofs.Common.{Bool, List, [], ap, append-nil, append_assoc, arith, cond, false, length, refl, subst, sym, true, ℕ, ◌++◌, ◌+◌, ◌==◌, ◌≤◌, ◌∙◌, ◌∷◌, ◌≡◌}
+use Rattle.model_core.specs.{after_link, answered, can_close, can_link, changes, checked_of, checkpointer_program, checkpointer_took, cleaner_program, cleaner_took, closer_program, closer_took, flusher_program, flusher_took, has_passed, has_room, has_space, heard, mode, old_of, tail_of, to_next_page, took, user_program, user_took, UserState, with_mark, writer_program, writer_took, reader_program, reader_took}
+use Rattle.model_core.specs.States as model
+use Rattle.model_core.specs.States.{Actor}
 use Rattle.model_core.specs.UserProgram.{with_close_room, with_link_room, without_close_room, without_link_room}
 use Rattle.model_core.specs.declared.ops.Answer.{Answer}
 use Rattle.model_core.specs.declared.steps.AdvanceStep.TheVariants as advance_step
@@ -17,17 +14,18 @@ use Rattle.model_core.specs.Later.{IsSameActor}
 abbrev pub Keeps : UserState → UserState → Type 0
 Keeps u v =
     (v.user ≡ u.user) × (v.lines ≡ u.lines) × (u.k ≤ v.k) × (more : List ℕ) × (v.starts ≡ u.starts ++ more)
+    × (v.keeps ≡ u.keeps)
 
 -- with nothing more
 pub still : (u : UserState) → Keeps u u
-still u = (refl, refl, omega arith, [], sym (append-nil u.starts))
+still u = (refl, refl, omega arith, [], sym (append-nil u.starts), refl)
 
 -- with one more answer, or one more group
 one_answer : (u : UserState) → Keeps u (answered u)
-one_answer u = (refl, refl, omega arith, [], sym (append-nil u.starts))
+one_answer u = (refl, refl, omega arith, [], sym (append-nil u.starts), refl)
 
 one_group : (u : UserState) (n : ℕ) → Keeps u (user_took u n user_step.Reserve)
-one_group u n = (refl, refl, omega arith, n ∷ [], refl)
+one_group u n = (refl, refl, omega arith, n ∷ [], refl, refl)
 
 keeps_trans : (u v w : UserState) → Keeps u v → Keeps v w → Keeps u w
 keeps_trans u v w h m = (
@@ -36,10 +34,11 @@ keeps_trans u v w h m = (
   (let a = h.2 in let b = m.2 in omega arith),
   h.3 ++ m.3,
   m.4 ∙ ap (λ (l : List ℕ). l ++ m.3) h.4 ∙ append_assoc u.starts h.3 m.3,
+  m.5 ∙ h.5,
 )
 
 user_later : (u v : UserState) → Keeps u v → IsSameActor (model.User u) (model.User v)
-user_later u v h = (v, refl, h.0, h.1, h.2, h.3, h.4)
+user_later u v h = (v, refl, h.0, h.1, h.2, h.3, h.4, h.5)
 
 pub later_refl : (a : Actor) → IsSameActor a a
 later_refl (model.User u) = user_later u u (still u)
@@ -53,8 +52,8 @@ later_refl (model.Checkpointer s) = (s, refl)
 pub later_trans : (a b c : Actor) → IsSameActor a b → IsSameActor b c → IsSameActor a c
 later_trans (model.User u) b c h k =
     let m = subst (λ (x : Actor). IsSameActor x c) h.1 k in
-    let s = keeps_trans u h.0 m.0 (h.2, h.3, h.4, h.5, h.6) (m.2, m.3, m.4, m.5, m.6) in
-    (m.0, m.1, s.0, s.1, s.2, s.3, s.4)
+    let s = keeps_trans u h.0 m.0 (h.2, h.3, h.4, h.5, h.6, h.7) (m.2, m.3, m.4, m.5, m.6, m.7) in
+    (m.0, m.1, s.0, s.1, s.2, s.3, s.4, s.5)
 later_trans (model.Writer s) b c h k = subst (λ (x : Actor). IsSameActor x c) h.1 k
 later_trans (model.Flusher s) b c h k = subst (λ (x : Actor). IsSameActor x c) h.1 k
 later_trans (model.Reader s) b c h k = subst (λ (x : Actor). IsSameActor x c) h.1 k

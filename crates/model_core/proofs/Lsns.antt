@@ -3,7 +3,7 @@ use Rattle.std.proofs.Common.{ap, arith, subst, sym, ℕ, ◌%◌, ◌*◌, ◌+
 use mathlib.Core.Logic.{dite}
 use native.Mathlib.Decide.{dec_le}
 use Rattle.model_core.proofs.Lists.{one_turn}
-use Rattle.model_core.specs.Lsn.{floor, lsn}
+use Rattle.model_core.specs.Lanes.{floor, lsn}
 use Rattle.model_log.specs.declared.layout.TheConstants.{BLOCK_DATA}
 use Rattle.model_core.specs.declared.limits.TheConstants.{BUFFER_BLOCKS, LOG_BUFFER, WRITTEN_LINKS}
 use Rattle.model_base.specs.declared.limits.TheConstants.{BLOCK_SIZE, MAX_GROUP}

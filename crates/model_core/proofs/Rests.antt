@@ -1,8 +1,7 @@
 -- An actor that asks for nothing stays as it is.
 use Rattle.std.proofs.Common.{Bool, ap, cond, false, refl, true, ℕ, ◌≡◌}
-use Rattle.model_core.specs.{Actor, checked_of, checkpointer_op, checkpointer_program, checkpointer_took, CheckpointerState, cleaner_op, cleaner_program, cleaner_took, CleanerState, closer_op, closer_program, closer_took, CloserState, flusher_op, flusher_program, flusher_took, FlusherState, heard, next, old_of, took, user_op, user_program, user_took, UserState, writer_op, writer_program, writer_took, WriterState}
-use Rattle.model_core.specs.{reader_op, reader_program, reader_took, ReaderState}
-use Rattle.model_core.specs.Actors as actor
+use Rattle.model_core.specs.{Actor, checked_of, checkpointer_op, checkpointer_program, checkpointer_took, CheckpointerState, cleaner_op, cleaner_program, cleaner_took, CleanerState, closer_op, closer_program, closer_took, CloserState, flusher_op, flusher_program, flusher_took, FlusherState, heard, next, old_of, took, user_op, user_program, user_took, UserState, writer_op, writer_program, writer_took, WriterState, reader_op, reader_program, reader_took, ReaderState}
+use Rattle.model_core.specs.States as actor
 use Rattle.model_core.specs.declared.ops.Answer.{Answer}
 use Rattle.model_core.specs.declared.ops.Op.{Op}
 use Rattle.model_core.specs.declared.ops.Op.TheVariants as op

@@ -4,27 +4,18 @@ use lib.ListN.{get_elem?}
 use mathlib.Core.Option.{some, some-injective}
 use Rattle.model_core.proofs.Lists.{set_at, set_else}
 use Rattle.model_core.proofs.Tails.{held_in}
-use Rattle.model_core.specs.Actors.{Actor}
-use Rattle.model_core.specs.Advancing.{advance_next, advance_op, ends, frees, stays_put, tail_at}
-use Rattle.model_core.specs.Holding.{advance_holds}
-use Rattle.model_core.specs.Answers.{heard, old_of}
-use Rattle.model_core.specs.CheckpointerProgram.{checkpointer_op}
-use Rattle.model_core.specs.CleanerProgram.{cleaner_op}
-use Rattle.model_core.specs.CloserProgram.{closer_op, closer_took}
-use Rattle.model_core.specs.FlushLists.{Listed}
-use Rattle.model_core.specs.FlusherProgram.{flusher_op}
+use Rattle.model_core.specs.States.{Actor, Advance, CheckpointerState, CleanerState, CloserState, FlusherState, UserState, WriterState, ReaderState}
+use Rattle.model_core.specs.LogPrograms.{advance_next, advance_op, ends, frees, stays_put, tail_at, closer_op, closer_took, flusher_op, tail_after, writer_op, writer_took}
+use Rattle.model_core.specs.Hands.{advance_holds, HasHolder, closer_holds_tail, holds_tail, user_holds_tail, writer_holds_tail, ChecksWithoutTail}
+use Rattle.model_core.specs.ActorProgram.{heard, old_of}
+use Rattle.model_core.specs.PagePrograms.{checkpointer_op, cleaner_op}
+use Rattle.model_core.specs.Program.{Listed, checked, is_checking, next, own_op, own_took, took}
 use Rattle.model_core.specs.ReaderProgram.{reader_op}
-use Rattle.model_core.specs.Holding.{HasHolder, closer_holds_tail, holds_tail, user_holds_tail, writer_holds_tail}
 use Rattle.model_core.specs.Layout.{SharedWords}
 use Rattle.model_core.specs.NamedWords.{read, wrote}
-use Rattle.model_core.specs.Program.{checked, is_checking, next, own_op, own_took, took}
-use Rattle.model_core.specs.States.{Advance, CheckpointerState, CleanerState, CloserState, FlusherState, UserState, WriterState}
-use Rattle.model_core.specs.States.{ReaderState}
-use Rattle.model_core.specs.Tails.{tail_word}
+use Rattle.model_core.specs.Lanes.{tail_word}
 use Rattle.model_core.specs.UserProgram.{user_op, user_took}
-use Rattle.model_core.specs.Holding.{ChecksWithoutTail}
 use Rattle.model_core.specs.NamedTurn.{found, shared_answer, shared_left}
-use Rattle.model_core.specs.WriterProgram.{tail_after, writer_op, writer_took}
 use Rattle.model_core.specs.declared.ops.Answer.{Answer}
 use Rattle.model_core.specs.declared.ops.Op.{Op}
 use Rattle.model_core.specs.declared.steps.AdvanceStep.{AdvanceStep}
@@ -37,7 +28,7 @@ use Rattle.model_core.specs.declared.steps.UserStep.{UserStep}
 use Rattle.model_core.specs.declared.steps.WriterStep.{WriterStep}
 use Rattle.model_core.specs.declared.words.LinkBuffer.{LinkBuffer}
 use Rattle.model_core.specs.declared.words.Word.{Word}
-use Rattle.model_core.specs.Actors as actor
+use Rattle.model_core.specs.States as actor
 use Rattle.model_core.specs.declared.limits.TheConstants.{ADVANCE_PLACES}
 use Rattle.model_core.specs.declared.ops.Answer.TheVariants as answer
 use Rattle.model_core.specs.declared.ops.Op.TheVariants as op

@@ -1,6 +1,6 @@
 -- The word of a tail says the tail, and whether it is held.
 use Rattle.std.proofs.Common.{Bool, ap, arith, cond, eqb, false, refl, suc, true, zero, ℕ, ◌%◌, ◌*◌, ◌+◌, ◌/◌, ◌∙◌, ◌≡◌}
-use Rattle.model_core.specs.Tails.{is_held, tail_of, tail_word}
+use Rattle.model_core.specs.Lanes.{is_held, tail_of, tail_word}
 
 pub tail_in : (tail : ℕ) (held : Bool) → tail_of (tail_word tail held) ≡ tail
 tail_in tail true = omega arith

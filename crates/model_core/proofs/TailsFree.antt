@@ -1,29 +1,21 @@
 -- An actor that checks for a failure holds no tail, and one that has ended holds none.
 use Rattle.std.proofs.Common.{Bool, cond, eqb, false, length, nat_lt, refl, true, ℕ, ◌+◌, ◌/◌, ◌≡◌}
-use Rattle.model_core.specs.Actors.{Actor}
-use Rattle.model_core.specs.ActorProgram.{ActorProgram, checked_of}
-use Rattle.model_core.specs.Advancing.{advance_took, frees, stays_put}
-use Rattle.model_core.specs.Holding.{advance_holds}
-use Rattle.model_core.specs.Answers.{heard, old_of, on_call, on_take}
-use Rattle.model_core.specs.CheckpointerProgram.{checkpointer_program}
-use Rattle.model_core.specs.CleanerProgram.{cleaner_program}
-use Rattle.model_core.specs.FlusherProgram.{flusher_program}
+use Rattle.model_core.specs.States.{Actor, Advance, CloserState, UserState, WriterState}
+use Rattle.model_core.specs.ActorProgram.{ActorProgram, checked_of, heard, old_of, on_call, on_take}
+use Rattle.model_core.specs.LogPrograms.{advance_took, frees, stays_put, flusher_program, closer_ending, closer_program, closer_took, finds_no_more, has_log_space, has_whole_word, stands_outside, tail_after, writer_ending, writer_program, writer_took}
+use Rattle.model_core.specs.Hands.{advance_holds, ChecksWithoutTail, closer_holds_tail, holds_tail, user_holds_tail, writer_holds_tail, HasStopped}
+use Rattle.model_core.specs.PagePrograms.{checkpointer_program, cleaner_program}
 use Rattle.model_core.specs.ReaderProgram.{reader_program}
-use Rattle.model_core.specs.CloserProgram.{closer_ending, closer_program, closer_took}
-use Rattle.model_core.specs.Holding.{ChecksWithoutTail, closer_holds_tail, holds_tail, user_holds_tail, writer_holds_tail}
 use Rattle.model_core.specs.Program.{checked, is_checking, own_took, took}
-use Rattle.model_core.specs.States.{Advance, CloserState, UserState, WriterState}
-use Rattle.model_core.specs.Tails.{tail_of}
+use Rattle.model_core.specs.Lanes.{tail_of}
 use Rattle.model_core.specs.UserProgram.{answered, can_close, can_link, cells_of, change_at, changes, frame_count, group_bytes, group_end, has_passed, has_room, has_space, is_whole, mode, next_count, to_next_page, user_ending, user_program, user_took, with_mark, word_step}
-use Rattle.model_core.specs.Holding.{HasStopped}
-use Rattle.model_core.specs.WriterProgram.{finds_no_more, has_log_space, has_whole_word, stands_outside, tail_after, writer_ending, writer_program, writer_took}
 use Rattle.model_core.specs.declared.ops.Answer.{Answer}
 use Rattle.model_core.specs.declared.steps.AdvanceStep.{AdvanceStep}
 use Rattle.model_core.specs.declared.steps.CloserStep.{CloserStep}
 use Rattle.model_core.specs.declared.steps.UserStep.{UserStep}
 use Rattle.model_core.specs.declared.steps.WriterStep.{WriterStep}
 use Rattle.model_core.specs.declared.words.LinkBuffer.{LinkBuffer}
-use Rattle.model_core.specs.Actors as actor
+use Rattle.model_core.specs.States as actor
 use Rattle.model_core.specs.declared.ops.Answer.TheVariants as answer
 use Rattle.model_core.specs.declared.ops.Step.TheVariants as step
 use Rattle.model_core.specs.declared.steps.AdvanceStep.TheVariants as advance_step

@@ -1,9 +1,8 @@
 -- The words that Ops name: none that is loaded, stored, added to or swapped is a turn word.
 use Rattle.std.proofs.Common.{Bool, cond, false, subst, true, ◌==◌, ◌≡◌}
-use Rattle.model_core.specs.{Advance, checkpointer_op, CheckpointerState, cleaner_op, CleanerState, closer_op, CloserState, flusher_op, FlusherState, mode, next, user_op, UserState, writer_op, WriterState}
-use Rattle.model_core.specs.{reader_op, ReaderState}
-use Rattle.model_core.specs.Actors as model
-use Rattle.model_core.specs.Advancing.{advance_op}
+use Rattle.model_core.specs.{Advance, checkpointer_op, CheckpointerState, cleaner_op, CleanerState, closer_op, CloserState, flusher_op, FlusherState, mode, next, user_op, UserState, writer_op, WriterState, reader_op, ReaderState}
+use Rattle.model_core.specs.States as model
+use Rattle.model_core.specs.LogPrograms.{advance_op}
 use Rattle.model_core.specs.declared.ops.Op.{Op}
 use Rattle.model_core.specs.declared.ops.Op.TheVariants as op
 use Rattle.model_core.specs.declared.steps.AdvanceStep.{AdvanceStep}

@@ -1,21 +1,13 @@
 -- What a wait leaves: the actor checks FAILED next, and then takes the same step again, or begins its round anew.
 use Rattle.std.proofs.Common.{Bool, [], cond, eqb, false, length, refl, true, ℕ, ◌+◌, ◌-◌, ◌≡◌}
-use Rattle.model_core.specs.ActorProgram.{opposite}
-use Rattle.model_core.specs.Actors.{Actor}
-use Rattle.model_core.specs.Advancing.{advance_took, frees, stays_put}
-use Rattle.model_core.specs.Answers.{has_taken, heard, old_of, on_take}
-use Rattle.model_core.specs.CheckpointerProgram.{checkpointer_took, checkpointer_waits, is_above}
-use Rattle.model_core.specs.CleanerProgram.{cleaner_took, cleaner_waits, finds_none, next_in_round}
-use Rattle.model_core.specs.CloserProgram.{closer_took, closer_waits}
-use Rattle.model_core.specs.FlusherProgram.{flusher_took, flusher_waits}
+use Rattle.model_core.specs.ActorProgram.{opposite, has_taken, heard, old_of, on_take}
+use Rattle.model_core.specs.States.{Actor, Advance, CheckpointerState, CleanerState, CloserState, FlusherState, UserState, WriterState, ReaderState}
+use Rattle.model_core.specs.LogPrograms.{advance_took, frees, stays_put, closer_took, closer_waits, flusher_took, flusher_waits, finds_no_more, has_log_space, stands_outside, tail_after, writer_took, writer_waits}
+use Rattle.model_core.specs.PagePrograms.{checkpointer_took, checkpointer_waits, is_above, cleaner_took, cleaner_waits, finds_none, next_in_round}
 use Rattle.model_core.specs.ReaderProgram.{has_all, reader_took, reader_waits}
-use Rattle.model_core.specs.Program.{is_checking, own_took}
-use Rattle.model_core.specs.States.{Advance, CheckpointerState, CleanerState, CloserState, FlusherState, UserState, WriterState}
-use Rattle.model_core.specs.States.{ReaderState}
-use Rattle.model_core.specs.Tails.{tail_of}
+use Rattle.model_core.specs.Program.{is_checking, own_took, waits}
+use Rattle.model_core.specs.Lanes.{tail_of}
 use Rattle.model_core.specs.UserProgram.{can_close, can_link, has_passed, has_room, has_space, user_took, user_waits}
-use Rattle.model_core.specs.Waiting.{waits}
-use Rattle.model_core.specs.WriterProgram.{finds_no_more, has_log_space, stands_outside, tail_after, writer_took, writer_waits}
 use Rattle.model_core.specs.declared.ops.Answer.{Answer}
 use Rattle.model_core.specs.declared.steps.AdvanceStep.{AdvanceStep}
 use Rattle.model_core.specs.declared.steps.CheckpointerStep.{CheckpointerStep}
@@ -25,7 +17,7 @@ use Rattle.model_core.specs.declared.steps.FlusherStep.{FlusherStep}
 use Rattle.model_core.specs.declared.steps.ReaderStep.{ReaderStep}
 use Rattle.model_core.specs.declared.steps.UserStep.{UserStep}
 use Rattle.model_core.specs.declared.steps.WriterStep.{WriterStep}
-use Rattle.model_core.specs.Actors as actor
+use Rattle.model_core.specs.States as actor
 use Rattle.model_core.specs.declared.ops.Answer.TheVariants as answer
 use Rattle.model_core.specs.declared.steps.AdvanceStep.TheVariants as advance_step
 use Rattle.model_core.specs.declared.steps.CheckpointerStep.TheVariants as checkpointer_step

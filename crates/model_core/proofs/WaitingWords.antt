@@ -2,26 +2,16 @@
 use Rattle.std.proofs.Common.{Bool, List, ap, cond, eqb, eqb-true, false, inl, inr, refl, subst, true, ℕ, ◌%◌, ◌+◌, ◌≡◌, ◌⊎◌}
 use Rattle.std.proofs.Math.Logic.{⊎_map}
 use Rattle.std.specs.Prelude.{None, slice_index, slice_set}
-use Rattle.model_core.specs.ActorProgram.{opposite}
-use Rattle.model_core.specs.Actors.{Actor}
-use Rattle.model_core.specs.Advancing.{advance_op, frees, stays_put, tail_at}
-use Rattle.model_core.specs.Answers.{has_taken, heard, old_of, on_take}
-use Rattle.model_core.specs.CheckpointerProgram.{checkpointer_op, checkpointer_waits}
-use Rattle.model_core.specs.CleanerProgram.{cleaner_op, cleaner_waits, finds_none, first_of_batch}
-use Rattle.model_core.specs.CloserProgram.{closer_op, closer_waits}
-use Rattle.model_core.specs.FlushLists.{Listed, oldest_end}
-use Rattle.model_core.specs.FlusherProgram.{flusher_op, flusher_waits}
+use Rattle.model_core.specs.ActorProgram.{opposite, has_taken, heard, old_of, on_take}
+use Rattle.model_core.specs.States.{Actor, Advance, CheckpointerState, CleanerState, CloserState, FlusherState, UserState, WriterState, ReaderState}
+use Rattle.model_core.specs.LogPrograms.{advance_op, frees, stays_put, tail_at, closer_op, closer_waits, flusher_op, flusher_waits, finds_no_more, writer_op, writer_waits}
+use Rattle.model_core.specs.PagePrograms.{checkpointer_op, checkpointer_waits, cleaner_op, cleaner_waits, finds_none, first_of_batch}
+use Rattle.model_core.specs.Program.{Listed, oldest_end, answer_of, word_found, words_left, own_op, waits}
 use Rattle.model_core.specs.ReaderProgram.{reader_op, reader_waits}
 use Rattle.model_core.specs.Layout.{device_at, index, lists_at}
-use Rattle.model_core.specs.Program.{own_op}
-use Rattle.model_core.specs.States.{Advance, CheckpointerState, CleanerState, CloserState, FlusherState, UserState, WriterState}
-use Rattle.model_core.specs.States.{ReaderState}
-use Rattle.model_core.specs.Tails.{tail_word}
+use Rattle.model_core.specs.Lanes.{tail_word}
 use Rattle.model_core.specs.UserProgram.{current_page, user_op, user_waits}
-use Rattle.model_core.specs.Waiting.{waits}
-use Rattle.model_core.specs.Holding.{IsFreeing}
-use Rattle.model_core.specs.WordTurn.{answer_of, word_found, words_left}
-use Rattle.model_core.specs.WriterProgram.{finds_no_more, writer_op, writer_waits}
+use Rattle.model_core.specs.Hands.{IsFreeing}
 use Rattle.model_core.specs.declared.limits.TheConstants.{FLUSH_LISTS}
 use Rattle.model_core.specs.declared.steps.AdvanceStep.{AdvanceStep}
 use Rattle.model_core.specs.declared.steps.CheckpointerStep.{CheckpointerStep}
@@ -35,7 +25,7 @@ use Rattle.model_core.specs.declared.words.Layout.{Layout}
 use Rattle.model_core.specs.declared.words.LinkBuffer.{LinkBuffer}
 use Rattle.model_core.specs.declared.words.LinkBuffer.TheVariants as link_buffer
 use Rattle.model_core.specs.declared.words.Word.TheVariants as word
-use Rattle.model_core.specs.Actors as actor
+use Rattle.model_core.specs.States as actor
 use Rattle.model_core.specs.declared.ops.Answer.TheVariants as answer
 use Rattle.model_core.specs.declared.steps.AdvanceStep.TheVariants as advance_step
 use Rattle.model_core.specs.declared.steps.CheckpointerStep.TheVariants as checkpointer_step

@@ -1,8 +1,7 @@
 -- How many words the bytes of a group fill. Words that hold bytes of the stream are counted without those of a block's header.
 use Rattle.std.proofs.Common.{arith, ℕ, ◌%◌, ◌*◌, ◌+◌, ◌-◌, ◌/◌, ◌<◌, ◌≡◌, ◌≤◌}
 use Rattle.model_log.specs.declared.layout.TheConstants.{BLOCK_DATA}
-use Rattle.model_core.specs.Lanes.{left_in_word}
-use Rattle.model_core.specs.Lsn.{lsn}
+use Rattle.model_core.specs.Lanes.{left_in_word, lsn}
 
 abbrev pub data_word : ℕ → ℕ
 data_word x = x / BLOCK_DATA * 63 + (x % BLOCK_DATA + 4) / 8

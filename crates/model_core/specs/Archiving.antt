@@ -2,11 +2,10 @@
 use Rattle.std.specs.Prelude.{List, false, true, ℕ, ◌<◌, ◌≡◌, ◌⊎◌}
 use lib.ListN.{get_elem?}
 use mathlib.Core.Option.{some}
-use Rattle.model_core.specs.Actors.{Actor}
-use Rattle.model_core.specs.Actors as actor
-use Rattle.model_core.specs.FailureCodes.{IsArchiveCode}
+use Rattle.model_core.specs.States.{Actor, ReaderState}
+use Rattle.model_core.specs.States as actor
+use Rattle.model_core.specs.ActorProgram.{IsArchiveCode}
 use Rattle.model_core.specs.ReaderProgram.{archives}
-use Rattle.model_core.specs.States.{ReaderState}
 use Rattle.model_core.specs.declared.steps.ReaderStep.{ReaderStep}
 use Rattle.model_core.specs.declared.steps.ReaderStep.TheVariants as reader_step
 

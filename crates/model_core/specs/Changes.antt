@@ -4,8 +4,7 @@ use Rattle.std.specs.Prelude.{Bool, List, [], cond, replicate, slice_index, suc,
 use Rattle.model_base.specs.{user_length}
 use Rattle.model_base.specs.declared.limits.TheConstants.{USER_START}
 use Rattle.model_base.specs.declared.shape.Shape.{Shape}
-use Rattle.model_core.specs.Groups.{CellWrite, PageChange}
-use Rattle.model_core.specs.States.{Line}
+use Rattle.model_core.specs.States.{CellWrite, PageChange, Line}
 use Rattle.model_log.specs.{group_text}
 use Rattle.model_log.specs.declared.rec.Rec.{Rec}
 use Rattle.model_store.specs.{touches, user_after}

@@ -1,6 +1,6 @@
 -- Where each word stands in the list of words.
 use Rattle.std.specs.Prelude.{Bool, List, [], ℕ, ◌*◌, ◌++◌, ◌+◌, ◌/◌, ◌∷◌}
-use Rattle.model_core.specs.Tails.{tail_word}
+use Rattle.model_core.specs.Lanes.{tail_word}
 use Rattle.model_core.specs.declared.words.Layout.{Layout}
 use Rattle.model_core.specs.declared.words.Word.{Word}
 use Rattle.model_core.specs.declared.words.Word.TheVariants as word
@@ -21,9 +21,6 @@ flushed_at = 3
 
 abbrev pub ckpt_at : ℕ
 ckpt_at = 4
-
-abbrev pub ctail_at : ℕ
-ctail_at = 5
 
 abbrev pub failed_at : ℕ
 failed_at = 6
@@ -68,7 +65,7 @@ index layout word.Write = write_at
 index layout word.Wtail = wtail_at
 index layout word.Flushed = flushed_at
 index layout word.Ckpt = ckpt_at
-index layout word.Ctail = ctail_at
+index layout word.Ctail = 5
 index layout word.Failed = failed_at
 index layout word.Device = device_at
 index layout (word.List i) = lists_at + i
@@ -82,7 +79,6 @@ index layout (word.Newest p) = pages_at + (p * page_stride layout + 1)
 index layout (word.Oldest p) = pages_at + (p * page_stride layout + 2)
 index layout (word.Frame p i) = pages_at + (p * page_stride layout + (frame_at + i))
 
--- a page's words
 pub record PageWords : Type 0 where
   pub latch : ℕ
   pub newest : ℕ

@@ -1,7 +1,7 @@
 -- The order of a flush list, and the lsn that stands with a page in it.
 use Rattle.std.specs.Prelude.{List, [], cond, ℕ, ◌+◌, ◌<◌, ◌==◌, ◌∷◌}
 use Rattle.model_core.specs.declared.limits.TheConstants.{CLOSED_LINKS}
-use Rattle.model_core.specs.FlushLists.{Listed}
+use Rattle.model_core.specs.Program.{Listed}
 
 -- the lsn that stands with a page, 0 where it isn't in the list
 abbrev pub oldest_of : ℕ → List Listed → ℕ

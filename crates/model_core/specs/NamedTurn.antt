@@ -1,6 +1,6 @@
 -- What an Op leaves of the words by name, and its answer.
 use Rattle.std.specs.Prelude.{Bool, List, None, cond, slice_index, slice_set, ℕ, ◌%◌, ◌+◌, ◌<◌, ◌==◌}
-use Rattle.model_core.specs.FlushLists.{Listed, oldest_end}
+use Rattle.model_core.specs.Program.{Listed, oldest_end, list_answer}
 use Rattle.model_core.specs.Layout.{SharedWords}
 use Rattle.model_core.specs.NamedWords.{IsWord, read, wrote}
 use Rattle.model_core.specs.declared.ops.Answer.{Answer}
@@ -9,7 +9,6 @@ use Rattle.model_core.specs.declared.ops.Op.TheVariants as op
 use Rattle.model_core.specs.declared.ops.Answer.TheVariants as answer
 use Rattle.model_core.specs.declared.limits.TheConstants.{FLUSH_LISTS}
 use Rattle.model_core.specs.declared.words.Layout.{Layout}
-use Rattle.model_core.specs.WordTurn.{list_answer}
 
 -- an Op on a word, over the words by name
 abbrev pub after : Op → SharedWords → SharedWords

@@ -1,12 +1,27 @@
--- Which words a store has, and one of them read and written by name.
-use Rattle.std.specs.Prelude.{slice_index, slice_set, ℕ, ◌*◌, ◌+◌, ◌<◌}
-use Rattle.model_core.specs.Tails.{is_held, tail_of, tail_word}
+-- Which words a store has, how many of each kind, and one of them read and written by name.
+use Rattle.std.specs.Prelude.{List, [], get_or, length, ℕ, ◌<◌, ◌≡◌, slice_index, slice_set, ◌*◌, ◌+◌}
+use Rattle.model_core.specs.declared.limits.TheConstants.{BUFFER_BLOCKS, BUFFER_WORDS, WRITTEN_LINKS, CLOSED_LINKS, FLUSH_LISTS, READERS}
 use Rattle.model_core.specs.declared.words.Layout.{Layout}
+use Rattle.model_core.specs.Layout.{frame_words, PageWords, SharedWords, page_stride, pages_at}
+use Rattle.model_core.specs.Lanes.{is_held, tail_of, tail_word}
 use Rattle.model_core.specs.declared.words.Word.{Word}
 use Rattle.model_core.specs.declared.words.Word.TheVariants as word
-use Rattle.model_core.specs.declared.limits.TheConstants.{BUFFER_BLOCKS, BUFFER_WORDS, WRITTEN_LINKS, CLOSED_LINKS, FLUSH_LISTS, READERS}
-use Rattle.model_core.specs.Layout.{frame_words, page_stride, pages_at, PageWords, SharedWords}
-use Rattle.model_core.specs.Sizes.{page_words_at}
+
+abbrev pub blank_words : PageWords
+blank_words = record { latch = 0; newest = 0; oldest = 0; frame = [] }
+
+abbrev pub page_words_at : List PageWords → ℕ → PageWords
+page_words_at ls p = get_or ls p blank_words
+
+pub record IsSized (layout : Layout) (m : SharedWords) : Type 0 where
+  pub lists : length m.lists ≡ FLUSH_LISTS
+  pub wlinks : length m.wlinks ≡ WRITTEN_LINKS
+  pub clinks : length m.clinks ≡ CLOSED_LINKS
+  pub cells : length m.cells ≡ BUFFER_WORDS
+  pub firsts : length m.firsts ≡ BUFFER_BLOCKS
+  pub places : length m.places ≡ READERS
+  pub page_words : length m.page_words ≡ layout.pages
+  pub frames : (p : ℕ) → p < layout.pages → length (page_words_at m.page_words p).frame ≡ frame_words layout.page_size
 
 -- how many words a store has
 abbrev pub word_count : Layout → ℕ

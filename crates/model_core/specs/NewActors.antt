@@ -12,11 +12,12 @@ use Rattle.model_core.specs.declared.steps.UserStep.TheVariants as user_step
 use Rattle.model_core.specs.declared.steps.WriterStep.TheVariants as writer_step
 use Rattle.model_log.specs.declared.layout.TheConstants.{BLOCK_DATA, BLOCK_HEADER}
 
--- a user that has no line is done
+-- a user that has no line is done, and keeps none of those that it may get
 abbrev pub new_user : ℕ → ℕ → List Line → UserState
 new_user user blocks lines = record {
   user = user;
   blocks = blocks;
+  keeps = cond (length lines == 0) false true;
   lines = lines;
   starts = [];
   k = 0;

@@ -1,12 +1,8 @@
 -- The bytes of a word, one by one.
-use Rattle.std.specs.Prelude.{List, replicate, slice_index, ℕ, ◌++◌, [], take, ◌∷◌}
-use Rattle.std.specs.Int.{byte_at, from_le_bytes, w64, bytes_low_first}
-use Rattle.model_core.specs.Lanes.{cell_of, lane_of}
+use Rattle.std.specs.Prelude.{List, slice_index, ℕ, ◌++◌, [], take, ◌∷◌}
+use Rattle.std.specs.Int.{byte_at}
+use Rattle.model_core.specs.Lanes.{cell_of, lane_of, lanes}
 use Rattle.model_core.specs.declared.limits.TheConstants.{WORD_LANES}
-
--- what stands in so many lanes of a word, from a lane on
-unfoldable pub lanes : ℕ → ℕ → ℕ → List ℕ
-lanes j n word = bytes_low_first j n word
 
 -- the bytes of a frame's words, in turn
 abbrev pub frame_bytes : List ℕ → List ℕ
@@ -20,10 +16,6 @@ framed_page n frame = take n (frame_bytes frame)
 -- what stands in a lane of a word
 unfoldable pub lane : ℕ → ℕ → ℕ
 lane j word = byte_at j word
-
--- the word that has these bytes in its lanes from a lane on, and 0 in its others
-unfoldable pub packed : ℕ → List ℕ → ℕ
-packed j bytes = from_le_bytes w64 (replicate j 0 ++ bytes)
 
 -- what stands there
 abbrev pub byte_in : List ℕ → ℕ → ℕ

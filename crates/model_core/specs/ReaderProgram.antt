@@ -3,13 +3,11 @@
 use Rattle.std.specs.Prelude.{Bool, List, [], cond, drop, false, length, min, nat_le, take, true, ℕ, ◌%◌, ◌++◌, ◌+◌, ◌-◌, ◌==◌, ◌∷◌, ◌≡◌, ◌≤◌}
 use Rattle.std.specs.List.{AllByRecursion}
 use Rattle.model_base.specs.declared.limits.TheConstants.{BLOCK_SIZE, MAX_GROUP}
-use Rattle.model_log.specs.{IsGroupText, sn_of}
-use Rattle.model_log.specs.Block.{block_view, data_of, is_block_at}
+use Rattle.model_log.specs.{IsGroupText, sn_of, block_view, data_of, is_block_at}
 use Rattle.model_log.specs.declared.layout.TheConstants.{BLOCK_DATA, BLOCK_HEADER}
 use Rattle.model_log.specs.declared.rec.Rec.{Rec}
-use Rattle.model_core.specs.ActorProgram.{ActorProgram}
-use Rattle.model_core.specs.Answers.{on_call, code_of, old_of, on_take}
-use Rattle.model_core.specs.Lsn.{floor, lsn}
+use Rattle.model_core.specs.ActorProgram.{ActorProgram, on_call, code_of, old_of, on_take}
+use Rattle.model_core.specs.Lanes.{floor, lsn}
 use Rattle.model_core.specs.States.{Given, ReaderState}
 use Rattle.model_core.specs.declared.ops.Answer.{Answer}
 use Rattle.model_core.specs.declared.ops.Op.{Op}

@@ -1,12 +1,10 @@
 -- The groups that an actor has reserved, and the history after its step.
 use Rattle.std.specs.Prelude.{List, [], cond, ℕ, ◌++◌, ◌∷◌}
-use Rattle.model_core.specs.Actors.{Actor}
-use Rattle.model_core.specs.Groups.{Entry}
-use Rattle.model_core.specs.States.{UserState}
+use Rattle.model_core.specs.States.{Actor, UserState, Entry}
 use Rattle.model_core.specs.UserProgram.{line}
 use Rattle.model_core.specs.declared.steps.UserStep.{UserStep}
 use Rattle.model_core.specs.declared.steps.UserStep.TheVariants as user_step
-use Rattle.model_core.specs.Actors as actor
+use Rattle.model_core.specs.States as actor
 use Rattle.model_core.specs.Program.{entry, entries_from}
 
 abbrev pub entries : Actor → List Entry

@@ -1,6 +1,7 @@
--- The state of each actor: what contracts see of it.
-use Rattle.std.specs.Prelude.{Bool, List, ℕ}
-use Rattle.model_core.specs.Groups.{PageChange}
+-- The reserved groups of a run, as a user's line and the history have them; the state of each actor: what contracts see of it;
+-- the actors, and what they hand to a device call. All places of groups are sns, counted from the run's first, which is a multiple
+-- of 496.
+use Rattle.std.specs.Prelude.{List, length, ℕ, ◌+◌, Bool}
 use Rattle.model_core.specs.declared.steps.CleanerStep.{CleanerStep}
 use Rattle.model_core.specs.declared.steps.CloserStep.{CloserStep}
 use Rattle.model_core.specs.declared.steps.UserStep.{UserStep}
@@ -8,6 +9,33 @@ use Rattle.model_core.specs.declared.steps.CheckpointerStep.{CheckpointerStep}
 use Rattle.model_core.specs.declared.steps.WriterStep.{WriterStep}
 use Rattle.model_core.specs.declared.steps.FlusherStep.{FlusherStep}
 use Rattle.model_core.specs.declared.steps.ReaderStep.{ReaderStep}
+
+-- a cell of a page that a group changes, and its value then
+pub record CellWrite : Type 0 where
+  pub at : ℕ
+  pub value : ℕ
+
+-- a page as a store keeps it: the end of the last group that it has, and its bytes
+pub record KeptPage : Type 0 where
+  pub lsn : ℕ
+  pub bytes : List ℕ
+
+-- a page that a group touches, and the cells that it changes there, each once
+pub record PageChange : Type 0 where
+  pub page : ℕ
+  pub cells : List CellWrite
+
+-- a reserved group: the user's number, the index of its line, where it starts, its bytes, and the pages that it touches
+pub record Entry : Type 0 where
+  pub user : ℕ
+  pub k : ℕ
+  pub start : ℕ
+  pub bytes : List ℕ
+  pub changes : List PageChange
+
+-- the place after its last byte
+abbrev pub end_of : Entry → ℕ
+end_of e = e.start + length e.bytes
 
 -- An advance of a tail: the tail that it has loaded, the place to which it has followed links, and the link that it has found
 -- there.
@@ -39,10 +67,12 @@ none_loaded = record { ckpt = 0; write = 0; wtail = 0; ctail = 0; flushed = 0 }
 
 -- A user with its number and lines. `k` commits are answered; a group is reserved at each of `starts`, in sns, and where these
 -- are more than k the last is in hand: it starts at `start`, and so many of its bytes are copied. Where the user checks, its
--- next Op is a load of FAILED, and then that of its step; so of each actor. `code` is the failure that ended it.
+-- next Op is a load of FAILED, and then that of its step; so of each actor. `code` is the failure that ended it. A user that
+-- keeps all can tell the text and the start of each of its groups, any other those of the line in hand alone.
 pub record UserState : Type 0 where
   pub user : ℕ
   pub blocks : ℕ
+  pub keeps : Bool
   pub lines : List Line
   pub starts : List ℕ
   pub k : ℕ
@@ -86,7 +116,6 @@ pub record FlusherState : Type 0 where
   pub checks : Bool
   pub step : FlusherStep
 
--- The closer.
 pub record CloserState : Type 0 where
   pub advance : Advance
   pub code : ℕ
@@ -156,3 +185,20 @@ pub record ReaderState : Type 0 where
   pub code : ℕ
   pub checks : Bool
   pub step : ReaderStep
+
+pub data Actor : Type 0 where
+  User : UserState → Actor
+  Writer : WriterState → Actor
+  Flusher : FlusherState → Actor
+  Closer : CloserState → Actor
+  Cleaner : CleanerState → Actor
+  Checkpointer : CheckpointerState → Actor
+  Reader : ReaderState → Actor
+
+-- what a device call takes beside its numbers: the log's bytes with their blocks' first offsets, or a batch of pages,
+-- or room for a block, with the bytes that the call puts there
+pub data Lent : Type 0 where
+  Nothing : Lent
+  Blocks : List ℕ → List ℕ → Lent
+  Batch : List BatchPage → Lent
+  Room : List ℕ → Lent

@@ -2,7 +2,7 @@
 use Rattle.std.specs.Prelude.{Bool, List, [], cond, false, length, nat_lt, slice_index, ℕ, ◌%◌, ◌*◌, ◌++◌, ◌+◌, ◌-◌, ◌/◌, ◌<◌, ◌==◌, ◌∷◌, ◌≡◌, ◌≤◌, ◌⊎◌}
 use Rattle.model_base.specs.declared.limits.TheConstants.{MAX_GROUP}
 use Rattle.model_log.specs.declared.layout.TheConstants.{BLOCK_DATA, BLOCK_HEADER}
-use Rattle.model_core.specs.Groups.{end_of, Entry}
+use Rattle.model_core.specs.States.{end_of, Entry}
 
 -- the entries follow each other from s to n, and none is empty or over the limit
 abbrev pub Tiles : ℕ → List Entry → ℕ → Type 0

@@ -1,14 +1,10 @@
 -- The program of a user: its next Op, and its state after the answer.
 use Rattle.std.specs.Prelude.{Bool, List, [], cond, drop, false, get_or, length, min, nat_le, nat_lt, slice_set, suc, take, true, ℕ, ◌%◌, ◌*◌, ◌++◌, ◌+◌, ◌-◌, ◌/◌, ◌==◌, ◌∷◌}
-use Rattle.model_core.specs.ActorProgram.{ActorProgram, opposite}
-use Rattle.model_core.specs.Advancing.{advance_next, advance_op, advance_took, frees, loaded_tail, stays_put}
-use Rattle.model_core.specs.Answers.{heard}
-use Rattle.model_core.specs.Groups.{PageChange, CellWrite}
-use Rattle.model_core.specs.Lanes.{cell_of, lane_of, left_in_word}
-unfoldable use Rattle.model_core.specs.Packing.{lanes, packed}
-use Rattle.model_core.specs.Lsn.{floor, lsn}
-use Rattle.model_core.specs.States.{Line, LoadedMarks, UserState}
-use Rattle.model_core.specs.Tails.{tail_of}
+use Rattle.model_core.specs.ActorProgram.{ActorProgram, opposite, heard}
+use Rattle.model_core.specs.LogPrograms.{advance_next, advance_op, advance_took, frees, loaded_tail, stays_put}
+use Rattle.model_core.specs.States.{PageChange, CellWrite, Line, LoadedMarks, UserState}
+use Rattle.model_core.specs.Lanes.{cell_of, lane_of, left_in_word, floor, lsn, tail_of}
+unfoldable use Rattle.model_core.specs.Lanes.{lanes, packed}
 use Rattle.model_core.specs.declared.ops.Op.{Op}
 use Rattle.model_core.specs.declared.ops.Step.{Step}
 use Rattle.model_core.specs.declared.steps.AdvanceStep.{AdvanceStep}

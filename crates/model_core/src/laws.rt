@@ -1,14 +1,10 @@
 // What holds of every store that runs. A caller learns it by calling a function that does nothing.
 ghost use Rattle.std.specs.Prelude.{◌≡◌, ◌<◌, ◌⊎◌, ℕ, Bool, List, false, true};
-ghost use Rattle.model_core.specs.Actors.{Actor};
-ghost use Rattle.model_core.specs.FlushLists.{Listed};
+ghost use Rattle.model_core.specs.States.{Actor};
+ghost use Rattle.model_core.specs.Program.{Listed, answer_of, words_left, is_checking, own_op, own_took, took, waits};
 ghost use Rattle.model_core.specs.Layout.{index};
 ghost use Rattle.model_core.specs.NamedWords.{IsWord, word_count};
-ghost use Rattle.model_core.specs.Holding.{ChecksWithoutTail, holds_tail};
-ghost use Rattle.model_core.specs.Program.{is_checking, own_op, own_took, took};
-ghost use Rattle.model_core.specs.Waiting.{waits};
-ghost use Rattle.model_core.specs.Holding.{IsFreeing, HasStopped};
-ghost use Rattle.model_core.specs.WordTurn.{answer_of, words_left};
+ghost use Rattle.model_core.specs.Hands.{ChecksWithoutTail, holds_tail, IsFreeing, HasStopped};
 ghost use Rattle.model_core.specs.declared.ops.Answer.{Answer};
 ghost use Rattle.model_core.specs.declared.ops.Op.TheVariants as op;
 ghost use Rattle.model_core.specs.declared.words.Layout.{Layout};

@@ -5,9 +5,8 @@ use Rattle.std.proofs.lemmas.Bool.{cases_lt}
 use Rattle.std.proofs.lemmas.List.Elements.{All-nil, All-cons, All-head, All-tail, All-append, All-weaker}
 use Rattle.model_base.specs.declared.limits.TheConstants.{BLOCK_SIZE}
 use Rattle.model_device.specs.declared.write.Write.{Write}
-use Rattle.model_device.specs.Disk.{Disk, IsCovered, IsImage, after_write, after_writes, sector}
+use Rattle.model_device.specs.Disks.{Disk, IsCovered, IsImage, after_write, after_writes, sector, IsSectorWrite, AreSectorWrites}
 use Rattle.model_device.specs.Crash.{sectors_from, sector_writes, survives, cut_to, left_of, crash_image}
-use Rattle.model_device.specs.Within.{IsSectorWrite, AreSectorWrites}
 use Rattle.model_device.proofs.Overwritten.{length-overwritten, part-overwritten_before, part-overwritten_behind}
 
 -- the part lies at the beginning of one sector, which one of the writes covers

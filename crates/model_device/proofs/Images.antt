@@ -4,9 +4,8 @@ use Rattle.std.proofs.lemmas.Bool.{cases_lt}
 use Rattle.std.proofs.lemmas.List.{same_lists, get_or-take, get_or-drop}
 use Rattle.model_base.specs.declared.limits.TheConstants.{BLOCK_SIZE}
 use Rattle.model_device.specs.declared.write.Write.{Write}
-use Rattle.model_device.specs.Disk.{Disk, sector, Covers, written_sector, IsCovered, IsImage, IsWrittenBy, after_write, settled, HasOneImage}
-use Rattle.model_device.specs.Calls.{written}
-use Rattle.model_device.specs.Within.{IsSectorWrite}
+use Rattle.model_device.specs.Disks.{Disk, sector, Covers, IsCovered, IsImage, after_write, settled, HasOneImage, IsSectorWrite, written}
+use Rattle.model_device.specs.MayHold.{written_sector, IsWrittenBy}
 use Rattle.model_device.proofs.Overwritten.{length-overwritten, part-overwritten_before, part-overwritten_behind, part-overwritten_inside}
 
 -- a sector after a write of whole sectors: what the write puts there, or what it was

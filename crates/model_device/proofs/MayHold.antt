@@ -2,10 +2,8 @@
 use Rattle.std.proofs.Common.{◌≡◌, ◌≤◌, ◌+◌, ◌-◌, ◌*◌, ◌⊎◌, ℕ, inl, inr, List, [], ◌∷◌, ◌++◌, length, take, drop, refl, sym, ap, subst, ◌∙◌, ⊎_elim, length-take, length-drop, arith}
 use Rattle.std.proofs.lemmas.List.{take_all}
 use Rattle.model_base.specs.declared.limits.TheConstants.{BLOCK_SIZE}
-use Rattle.model_device.specs.Calls.{written, synced, FailsWrite}
-use Rattle.model_device.specs.Disk.{Disk, sector, IsCovered, IsImage, HasOneImage, IsWrittenBy, Covers, written_sector, after_write}
-use Rattle.model_device.specs.MayHold.{Adds, MayHold}
-use Rattle.model_device.specs.Within.{IsSectorWrite}
+use Rattle.model_device.specs.Disks.{written, synced, FailsWrite, Disk, sector, IsCovered, IsImage, HasOneImage, Covers, after_write, IsSectorWrite}
+use Rattle.model_device.specs.MayHold.{IsWrittenBy, written_sector, Adds, MayHold}
 use Rattle.model_device.specs.declared.write.Write.{Write}
 use Rattle.model_device.proofs.Images.{IsCovered-written_by, IsImage-after_write, IsWrittenBy-append_left, IsWrittenBy-push}
 use Rattle.model_device.proofs.Overwritten.{part-overwritten_inside}

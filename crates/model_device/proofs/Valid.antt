@@ -2,10 +2,7 @@
 use Rattle.std.proofs.Common.{◌≡◌, ◌%◌, ◌⊎◌, ℕ, inl, inr, List, [], ◌∷◌, ◌++◌, length, refl, sym, ap, subst, ◌∙◌, ⊎_elim}
 use Rattle.std.proofs.lemmas.List.Elements.{All-nil, All-cons, All-append}
 use Rattle.model_base.specs.declared.limits.TheConstants.{BLOCK_SIZE}
-use Rattle.model_device.specs.Calls.{Crashes, FailsWrite, IsSameBeside, synced, written}
-use Rattle.model_device.specs.Disk.{Disk, IsCovered, IsImage, sector, settled}
-use Rattle.model_device.specs.Valid.{IsValid}
-use Rattle.model_device.specs.Within.{AreSectorWrites, IsSectorWrite}
+use Rattle.model_device.specs.Disks.{Crashes, FailsWrite, IsSameBeside, synced, written, Disk, IsCovered, IsImage, sector, settled, IsValid, AreSectorWrites, IsSectorWrite}
 use Rattle.model_device.specs.declared.write.Write.{Write}
 use Rattle.model_device.proofs.Images.{IsCovered-append_left, IsCovered-push, settled_images, written_reads}
 

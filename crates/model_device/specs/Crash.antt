@@ -2,7 +2,7 @@
 use Rattle.std.specs.Prelude.{ℕ, zero, suc, ◌+◌, ◌/◌, ◌%◌, ◌^◌, ◌==◌, if◌then◌else◌, List, [], ◌∷◌, length, take, drop, Bool}
 use Rattle.std.specs.List.{flat_map}
 use Rattle.model_base.specs.declared.limits.TheConstants.{BLOCK_SIZE}
-use Rattle.model_device.specs.Disk.{Disk, after_writes, settled}
+use Rattle.model_device.specs.Disks.{Disk, after_writes, settled}
 use Rattle.model_device.specs.declared.write.Write.{Write}
 
 -- the writes of one sector each that n sectors of bytes from an offset on come to

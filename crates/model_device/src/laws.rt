@@ -1,12 +1,9 @@
 // What holds of every device. Each law is the contract of a function that does nothing.
 ghost use Rattle.std.specs.Prelude.{ℕ, List, ◌≡◌, ◌+◌, ◌*◌, ◌%◌, ◌<◌, ◌≤◌, length};
 ghost use Rattle.model_base.specs.declared.limits.TheConstants.{BLOCK_SIZE};
-ghost use Rattle.model_device.specs.Calls.{Crashes, FailsWrite, synced, written};
+ghost use Rattle.model_device.specs.Disks.{Crashes, FailsWrite, synced, written, Covers, Disk, HasOneImage, IsCovered, IsImage, sector, settled, IsValid, IsSectorWrite, AreSectorWrites};
 ghost use Rattle.model_device.specs.Crash.{crash_image};
-ghost use Rattle.model_device.specs.Disk.{Covers, Disk, HasOneImage, IsCovered, IsImage, sector, settled, written_sector};
-ghost use Rattle.model_device.specs.MayHold.{Adds, MayHold};
-ghost use Rattle.model_device.specs.Valid.{IsValid};
-ghost use Rattle.model_device.specs.Within.{IsSectorWrite, AreSectorWrites};
+ghost use Rattle.model_device.specs.MayHold.{written_sector, Adds, MayHold};
 ghost use Rattle.model_device.specs.declared.write.Write.{Write};
 
 /// Whichever sector writes a crash lets survive, and wherever it tears the others, it leaves an image of the device.

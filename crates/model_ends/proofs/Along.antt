@@ -5,11 +5,8 @@ use Rattle.std.specs.Prelude.{slice_index}
 use lib.ListN.{get_elem?}
 use mathlib.Core.Option.{some}
 use Rattle.model_core.proofs.Lists.{set_at}
-use Rattle.model_core.specs.{Actor, answer_of, Core, DataServed, filled, Filling, flat, layout_of, lent, list_word, Listed, lists_left, log_left, LogServed, next, OwnServed, shared_answer, shared_left, SharedWords, took, words_left}
-use Rattle.model_core.specs.DataSide.{DataSide}
-use Rattle.model_core.specs.LogSide.{LogSide}
-use Rattle.model_core.specs.Setup.{Setup}
-use Rattle.model_core.specs.Turn.{Turn}
+use Rattle.model_core.specs.{Actor, answer_of, Core, DataServed, filled, Filling, flat, layout_of, lent, list_word, Listed, lists_left, log_left, LogServed, next, OwnServed, shared_answer, shared_left, SharedWords, took, words_left, DataSide, LogSide, Setup}
+use Rattle.model_core.specs.Program.{Turn}
 use Rattle.model_core.specs.declared.ops.Answer.{Answer}
 use Rattle.model_core.specs.declared.ops.Op.{Op}
 use Rattle.model_core.specs.declared.ops.Step.{Step}
@@ -21,7 +18,7 @@ use Rattle.model_running.proofs.BothKeep.{BothLeft, keeps_both}
 use Rattle.model_running.proofs.Filling.{fills_keep, is_filled, next_filled}
 use Rattle.model_running.proofs.FlatWords.{flat_answer, flat_left, flat_read}
 use Rattle.model_running.proofs.Turns.{next_words}
-use Rattle.model_running.specs.RunningStore.{BothHalves}
+use Rattle.model_running.specs.Watermarks.{BothHalves}
 use Rattle.model_ends.proofs.States.{lists_same}
 use Rattle.model_ends.specs.Alone.{CanReach}
 use Rattle.model_core.specs.declared.words.Layout.{Layout}

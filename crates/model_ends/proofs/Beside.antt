@@ -1,34 +1,26 @@
 -- What holds of any run beside its invariant, from its start on: the margin, that lists are in hands, and that the pages of a
 -- line ascend.
 use Rattle.std.proofs.Common.{List, None, [], ap, arith, length, refl, set, subst, suc, sym, ℕ, ⊎_elim, ◌*◌, ◌+◌, ◌<◌, ◌∙◌, ◌∷◌, ◌≡◌, ◌≤◌}
-use Rattle.std.specs.Prelude.{slice_index}
-use Rattle.std.specs.Prelude.{true, false}
+use Rattle.std.specs.Prelude.{slice_index, true, false}
 use lib.ListN.{get_elem?}
 use mathlib.Core.Option.{some, some-injective}
 use native.Mathlib.Decide.{ℕ_discrete}
 use Rattle.model_base.specs.declared.limits.TheConstants.{BLOCK_SIZE, LSN_LIMIT, MIN_LOG_BLOCKS}
 use Rattle.model_core.proofs.Later.{took_later}
 use Rattle.model_core.proofs.Lists.{at_set, set_at, set_else}
-use Rattle.model_core.specs.{Actor, change_at, CheckpointerState, CleanerState, CloserState, Core, filled, Filling, flat, layout_of, FlusherState, has_log_space, Line, line_at, Listed, lsn, next, ReaderState, shared_answer, SharedWords, took, UserState, WriterState}
-use Rattle.model_core.specs.Hands.{hand, IsFreeToCheck, user_hand}
-use Rattle.model_core.specs.Later.{IsSameActor}
+use Rattle.model_core.specs.{Actor, change_at, CheckpointerState, CleanerState, CloserState, Core, filled, Filling, flat, layout_of, FlusherState, has_log_space, Line, line_at, Listed, lsn, next, ReaderState, shared_answer, SharedWords, took, UserState, WriterState, hand, IsFreeToCheck, user_hand, holds_tail, user_holds_tail, IsSameActor, DataSide, LogSide, Setup}
 use Rattle.model_core.specs.ReaderProgram.{reader_filled}
-use Rattle.model_core.specs.DataSide.{DataSide}
-use Rattle.model_core.specs.LogSide.{LogSide}
-use Rattle.model_core.specs.Setup.{Setup}
 use Rattle.model_core.specs.declared.steps.ReaderStep.{ReaderStep}
 use Rattle.model_core.specs.declared.words.LinkBuffer.{LinkBuffer}
-use Rattle.model_core.specs.Holding.{holds_tail, user_holds_tail}
 use Rattle.model_logcore.proofs.Frame.{total_set}
 use Rattle.model_logcore.proofs.NewUsers.{new_step, new_user_is}
 use Rattle.model_logcore.proofs.StartHolds.{start}
-use Rattle.model_logcore.specs.{StartActor, sum_over_actors}
-use Rattle.model_logcore.specs.LogHalf.{left_to_reserve}
+use Rattle.model_logcore.specs.{StartActor, sum_over_actors, left_to_reserve}
 use Rattle.model_logcore.specs.Start.{closer_start, writer_start}
 use Rattle.model_logcore.specs.LogLaws.{LogLaws}
 use Rattle.model_pagecore.specs.DataLaws.{DataLaws}
 use Rattle.model_running.proofs.StartRunning.{both_start, start_pages}
-use Rattle.model_running.specs.RunningStore.{BothHalves}
+use Rattle.model_running.specs.Watermarks.{BothHalves}
 use Rattle.model_running.specs.StartStore.{StartStore}
 use Rattle.model_ends.proofs.Along.{Along, EachTurnKeeps, reach_along}
 use Rattle.model_ends.proofs.HeldLists.{HasHand, lists_kept, ListsAreInHand}
@@ -36,7 +28,7 @@ use Rattle.model_ends.proofs.Margin.{HasMargin, is_user, pledge, user_pledge}
 use Rattle.model_ends.proofs.MarginKeeps.{margin_kept, writer_has_space}
 use Rattle.model_ends.proofs.Sizes.{sum_less}
 use Rattle.model_ends.specs.Alone.{CanReach}
-use Rattle.model_core.specs.Actors as actor
+use Rattle.model_core.specs.States as actor
 use Rattle.model_core.specs.declared.steps.ReaderStep.TheVariants as reader_step
 use Rattle.model_core.specs.declared.steps.UserStep.TheVariants as user_step
 use Rattle.model_core.specs.declared.words.LinkBuffer.TheVariants as link_buffer

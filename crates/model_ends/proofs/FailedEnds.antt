@@ -4,19 +4,15 @@ use Rattle.std.proofs.Common.{List, [], ap, arith, drop, length, length-set, ref
 use Rattle.std.proofs.Math.Nat.{mul-le-mul_right}
 use Rattle.std.specs.Prelude.{slice_index}
 use Rattle.model_base.specs.declared.limits.TheConstants.{LSN_LIMIT}
-use Rattle.model_core.specs.{Actor, Core, filled, flat, layout_of, Line, Listed, lsn, next, PageWords, page_words_at, SharedWords, shared_answer, took}
-use Rattle.model_core.specs.DataSide.{DataSide}
-use Rattle.model_core.specs.LogSide.{LogSide}
-use Rattle.model_core.specs.Setup.{Setup}
+use Rattle.model_core.specs.{Actor, Core, filled, flat, layout_of, Line, Listed, lsn, next, PageWords, page_words_at, SharedWords, shared_answer, took, DataSide, LogSide, Setup}
 use Rattle.model_logcore.proofs.Frame.{total_set}
 use Rattle.model_logcore.proofs.NewUsers.{new_user_is}
 use Rattle.model_logcore.proofs.StartHolds.{start}
-use Rattle.model_logcore.specs.{StartActor, sum_over_actors}
-use Rattle.model_logcore.specs.LogHalf.{left_to_reserve}
+use Rattle.model_logcore.specs.{StartActor, sum_over_actors, left_to_reserve}
 use Rattle.model_logcore.specs.LogLaws.{LogLaws}
 use Rattle.model_pagecore.specs.DataLaws.{DataLaws}
 use Rattle.model_running.proofs.StartRunning.{both_start, start_pages}
-use Rattle.model_running.specs.RunningStore.{BothHalves}
+use Rattle.model_running.specs.Watermarks.{BothHalves}
 use Rattle.model_running.specs.PlainStore.{plain_store}
 use Rattle.model_running.specs.Schedule.{TakesTurns}
 use Rattle.model_running.specs.StartStore.{StartStore}
@@ -29,7 +25,7 @@ use Rattle.model_ends.proofs.Sizes.{sum_less}
 use Rattle.model_ends.proofs.UserLess.{lines_from}
 use Rattle.model_ends.proofs.UserNoMore.{left_of}
 use Rattle.model_ends.specs.Alone.{CanReach}
-use Rattle.model_core.specs.Actors as actor
+use Rattle.model_core.specs.States as actor
 
 -- the steps of a user's lines
 abbrev pub script_steps : Actor → ℕ

@@ -8,11 +8,8 @@ use Rattle.std.specs.Prelude.{slice_index}
 use native.Mathlib.Decide.{dec_le, ℕ_discrete}
 use Rattle.model_core.proofs.Groups.{at_less}
 use Rattle.model_core.proofs.Lists.{set_at, set_else}
-use Rattle.model_core.specs.{Actor, Core, filled, Listed, lists_left, next, shared_answer, shared_left, SharedWords, took, UserState}
-use Rattle.model_core.specs.DataSide.{DataSide}
-use Rattle.model_core.specs.LogSide.{LogSide}
-use Rattle.model_core.specs.Setup.{Setup}
-use Rattle.model_core.specs.Turn.{Turn}
+use Rattle.model_core.specs.{Actor, Core, filled, Listed, lists_left, next, shared_answer, shared_left, SharedWords, took, UserState, DataSide, LogSide, Setup}
+use Rattle.model_core.specs.Program.{Turn}
 use Rattle.model_core.specs.declared.ops.Answer.{Answer}
 use Rattle.model_core.specs.declared.ops.Step.{Step}
 use Rattle.model_logcore.proofs.Frame.{total_set}
@@ -20,7 +17,7 @@ use Rattle.model_logcore.specs.{sum_over_actors}
 use Rattle.model_logcore.specs.LogLaws.{LogLaws}
 use Rattle.model_pagecore.specs.DataLaws.{DataLaws}
 use Rattle.model_running.proofs.FailedStays.{turn_keeps_failed}
-use Rattle.model_running.specs.RunningStore.{IsRunning}
+use Rattle.model_running.specs.Watermarks.{IsRunning}
 use Rattle.model_running.specs.PlainStore.{plain_store}
 use Rattle.model_running.specs.Schedule.{HaveEnded, seat_of_turn, TakesTurns}
 use Rattle.model_script.specs.{draw}
@@ -32,7 +29,7 @@ use Rattle.model_ends.proofs.PageCost.{words_steps}
 use Rattle.model_ends.proofs.Rank.{open_or}
 use Rattle.model_ends.proofs.UserNoMore.{left_of}
 use Rattle.model_ends.proofs.UserSettles.{leaving, leaving_few}
-use Rattle.model_core.specs.Actors as actor
+use Rattle.model_core.specs.States as actor
 
 -- a user that hasn't ended
 pub record Leaver (actors : List Actor) : Type 0 where

@@ -5,22 +5,18 @@ use mathlib.Core.Option.{some}
 use Rattle.std.proofs.Common.{List, ap, arith, inl, inr, refl, set, ℕ, ⊎_elim, ◌+◌, ◌<◌, ◌≡◌, ◌≤◌, ◌⊎◌}
 use Rattle.std.specs.Prelude.{slice_index}
 use Rattle.model_core.proofs.Later.{took_later}
-use Rattle.model_core.specs.{Actor, filled, Filling, Listed, lists_left, next, shared_answer, shared_left, SharedWords, took, UserState}
-use Rattle.model_core.specs.DataSide.{DataSide}
-use Rattle.model_core.specs.Later.{IsSameActor}
-use Rattle.model_core.specs.LogSide.{LogSide}
-use Rattle.model_core.specs.Setup.{Setup}
+use Rattle.model_core.specs.{Actor, filled, Filling, Listed, lists_left, next, shared_answer, shared_left, SharedWords, took, UserState, DataSide, LogSide, IsSameActor, Setup}
 use Rattle.model_logcore.proofs.Frame.{total_set}
 use Rattle.model_logcore.specs.{LogGhost, sum_over_actors}
 use Rattle.model_pagecore.specs.{PageGhost}
-use Rattle.model_running.specs.RunningStore.{BothHalves}
+use Rattle.model_running.specs.Watermarks.{BothHalves}
 use Rattle.model_ends.proofs.Margin.{is_user}
 use Rattle.model_ends.proofs.OtherNoMore.{others_no_more}
 use Rattle.model_ends.proofs.Outcome.{IsOpenStep}
 use Rattle.model_ends.proofs.PageCost.{words_steps}
 use Rattle.model_ends.proofs.UserNoMore.{left_of, user_no_more}
 use Rattle.model_ends.proofs.UserSettles.{leaving, user_settles}
-use Rattle.model_core.specs.Actors as actor
+use Rattle.model_core.specs.States as actor
 
 -- what users and words have left
 abbrev pub total : ℕ → SharedWords → (ℕ → List Listed) → List Actor → ℕ

@@ -2,21 +2,18 @@
 use Rattle.std.proofs.Common.{Bool, List, arith, cond, eqb, eqb-true, false, inl, inr, refl, true, ℕ, ◌%◌, ◌<◌, ◌≡◌, ◌≤◌}
 use Rattle.std.proofs.lemmas.Bool.{eqb-false}
 use Rattle.model_core.proofs.Tails.{tail_in}
-use Rattle.model_core.specs.{Actor, flusher_op, flusher_took, FlusherState, Listed, next, shared_answer, shared_left, SharedWords, tail_word, took, writer_op, WriterState, wrote}
-use Rattle.model_core.specs.LogSide.{LogSide}
-use Rattle.model_core.specs.Setup.{Setup}
+use Rattle.model_core.specs.{Actor, flusher_op, flusher_took, FlusherState, Listed, next, shared_answer, shared_left, SharedWords, tail_word, took, writer_op, WriterState, wrote, LogSide, Setup}
 use Rattle.model_core.specs.declared.ops.Op.{Op}
 use Rattle.model_core.specs.declared.steps.FlusherStep.{FlusherStep}
 use Rattle.model_core.specs.declared.steps.WriterStep.{WriterStep}
 use Rattle.model_core.specs.declared.limits.TheConstants.{WRITTEN_LINKS}
 use Rattle.model_logcore.proofs.AdvanceSteps.{is_free, tails}
-use Rattle.model_logcore.specs.{FlusherAt, LogGhost, WriterAt}
-use Rattle.model_logcore.specs.LogHalf.{LogHalf}
+use Rattle.model_logcore.specs.{FlusherAt, LogGhost, WriterAt, LogHalf}
 use Rattle.model_ends.proofs.Cost.{cost, flusher_cost, words_cost}
 use Rattle.model_ends.proofs.Links.{links_clear}
 use Rattle.model_ends.proofs.Outcome.{Can, FlusherCan, Outcome, tries}
 use Rattle.model_ends.proofs.WriterTurns.{device_says}
-use Rattle.model_core.specs.Actors as actor
+use Rattle.model_core.specs.States as actor
 use Rattle.model_core.specs.declared.ops.Answer.TheVariants as answer
 use Rattle.model_core.specs.declared.ops.Op.TheVariants as op
 use Rattle.model_core.specs.declared.steps.AdvanceStep.TheVariants as advance_step

@@ -6,10 +6,7 @@ use Rattle.std.specs.Prelude.{nat_le, nat_lt}
 use lib.ListN.{get_elem?}
 use mathlib.Core.Option.{some}
 unfoldable use Rattle.model_core.specs.{lanes}
-use Rattle.model_core.specs.{Actor, advance_next, answered, can_link, changes, flusher_took, FlusherState, frees, group_bytes, group_end, has_log_space, has_passed, has_room, has_space, has_whole_word, heard, is_held, lane_of, left_in_word, lsn, mode, next_count, old_of, read_place, SharedWords, stands_outside, stays_put, tail_of, took, user_took, UserState, with_link_room, with_mark, without_link_room, word_end, writer_took, WriterState}
-use Rattle.model_core.specs.LogSide.{LogSide}
-use Rattle.model_core.specs.Setup.{Setup}
-use Rattle.model_core.specs.StartWords.{start_checkpoint}
+use Rattle.model_core.specs.{Actor, advance_next, answered, can_link, changes, flusher_took, FlusherState, frees, group_bytes, group_end, has_log_space, has_passed, has_room, has_space, has_whole_word, heard, is_held, lane_of, left_in_word, lsn, mode, next_count, old_of, read_place, SharedWords, stands_outside, stays_put, tail_of, took, user_took, UserState, with_link_room, with_mark, without_link_room, word_end, writer_took, WriterState, LogSide, Setup, start_checkpoint}
 use Rattle.model_core.specs.declared.ops.Answer.{Answer}
 use Rattle.model_core.specs.declared.steps.AdvanceStep.{AdvanceStep}
 use Rattle.model_core.specs.declared.steps.FlusherStep.{FlusherStep}
@@ -18,7 +15,7 @@ use Rattle.model_core.specs.declared.steps.WriterStep.{WriterStep}
 use Rattle.model_core.specs.declared.limits.TheConstants.{ADVANCE_PLACES}
 use Rattle.model_log.specs.declared.layout.TheConstants.{BLOCK_DATA}
 use Rattle.model_ends.proofs.UserTurns.{IsLogStep}
-use Rattle.model_core.specs.Actors as actor
+use Rattle.model_core.specs.States as actor
 use Rattle.model_core.specs.declared.ops.Answer.TheVariants as answer
 use Rattle.model_core.specs.declared.steps.AdvanceStep.TheVariants as advance_step
 use Rattle.model_core.specs.declared.steps.CheckpointerStep.TheVariants as checkpointer_step

@@ -6,12 +6,7 @@ use mathlib.Core.Option.{some, some-injective}
 use native.Mathlib.Decide.{dec_le, ℕ_discrete}
 use Rattle.model_core.proofs.Later.{took_later}
 use Rattle.model_core.proofs.Lists.{at_set, set_at, set_else}
-use Rattle.model_core.specs.{Actor, changes, flusher_op, FlusherState, heard, lent, Line, line_at, Listed, LogServed, next, old_of, shared_answer, shared_left, SharedWords, took, user_op, UserState, writer_op, WriterState}
-use Rattle.model_core.specs.Groups.{PageChange}
-use Rattle.model_core.specs.Later.{IsSameActor}
-use Rattle.model_core.specs.DataSide.{DataSide}
-use Rattle.model_core.specs.LogSide.{LogSide}
-use Rattle.model_core.specs.Setup.{Setup}
+use Rattle.model_core.specs.{Actor, changes, flusher_op, FlusherState, heard, lent, Line, line_at, Listed, LogServed, next, old_of, shared_answer, shared_left, SharedWords, took, user_op, UserState, writer_op, WriterState, PageChange, IsSameActor, DataSide, LogSide, Setup}
 use Rattle.model_core.specs.declared.ops.Answer.{Answer}
 use Rattle.model_core.specs.declared.ops.Op.{Op}
 use Rattle.model_core.specs.declared.steps.FlusherStep.{FlusherStep}
@@ -19,10 +14,10 @@ use Rattle.model_core.specs.declared.steps.WriterStep.{WriterStep}
 use Rattle.model_logcore.specs.{FlusherAt, FlusherFits, LogGhost, UserFits}
 use Rattle.model_logcore.specs.LogLaws.{LogLaws}
 use Rattle.model_pagecore.specs.{PageGhost}
-use Rattle.model_running.specs.RunningStore.{BothHalves}
+use Rattle.model_running.specs.Watermarks.{BothHalves}
 use Rattle.model_ends.proofs.Further.{flusher_tells, FlusherTold, Further, HasFlusher, HasStorer, HasWriter, IsGood, StoresCode, Told, user_tells, writer_tells, WriterTold}
 use Rattle.model_ends.proofs.PartsLeft.{flusher_left, Left, storer_holds, user_left, writer_left, written}
-use Rattle.model_core.specs.Actors as actor
+use Rattle.model_core.specs.States as actor
 use Rattle.model_core.specs.declared.ops.Answer.TheVariants as answer
 use Rattle.model_core.specs.declared.ops.Op.TheVariants as op
 use Rattle.model_core.specs.declared.steps.AdvanceStep.TheVariants as advance_step

@@ -4,13 +4,9 @@ use Rattle.std.proofs.Common.{List, [], arith, length, suc, ℕ, ◌*◌, ◌+�
 use native.Mathlib.Decide.{dec_le}
 use Rattle.model_base.specs.declared.limits.TheConstants.{BLOCK_SIZE, MAX_LOG_BLOCKS}
 use Rattle.model_core.proofs.Lsns.{lsn_wide}
-use Rattle.model_core.specs.{Actor, Core, Line, line_at}
-use Rattle.model_core.specs.DataSide.{DataSide}
-use Rattle.model_core.specs.LogSide.{LogSide}
-use Rattle.model_core.specs.Setup.{Setup}
+use Rattle.model_core.specs.{Actor, Core, Line, line_at, DataSide, LogSide, Setup}
 use Rattle.model_logcore.proofs.NewUsers.{new_user_is}
-use Rattle.model_logcore.specs.{StartActor, sum_over_actors}
-use Rattle.model_logcore.specs.LogHalf.{lengths}
+use Rattle.model_logcore.specs.{StartActor, sum_over_actors, lengths}
 use Rattle.model_logcore.specs.LogLaws.{LogLaws}
 use Rattle.model_pagecore.specs.DataLaws.{DataLaws}
 use Rattle.model_running.specs.PlainStore.{plain_store}
@@ -21,7 +17,7 @@ use Rattle.model_ends.proofs.Sizes.{sum_less}
 use Rattle.model_ends.proofs.Starts.{never_spent}
 use Rattle.model_ends.specs.Alone.{CanReach, StartsAlone}
 use Rattle.model_ends.specs.Bound.{bytes_of, lines_of, most_turns}
-use Rattle.model_core.specs.Actors as actor
+use Rattle.model_core.specs.States as actor
 
 -- lines of which each has a byte are no more than their bytes
 no_more_lines : (lines : List Line) → ((j : ℕ) → j < length lines → 0 < length (line_at lines j).bytes) → length lines ≤ lengths lines

@@ -7,8 +7,7 @@ use native.Mathlib.Decide.{ℕ_discrete}
 use Rattle.model_core.proofs.Hands.{Handles, handles, stays_free}
 use Rattle.model_core.proofs.Lists.{at_set, set_at, set_else}
 use Rattle.model_core.proofs.TurnWords.{IsOffTurns, IsPlain, next_off}
-use Rattle.model_core.specs.{Actor, checkpointer_op, CheckpointerState, cleaner_op, CleanerState, flusher_op, FlusherState, Listed, next, read, reader_op, ReaderState, shared_answer, shared_left, SharedWords, took, user_op, UserState, writer_op, WriterState, wrote}
-use Rattle.model_core.specs.Hands.{checkpointer_hand, cleaner_hand, flusher_hand, hand, IsFreeToCheck, reader_hand, user_hand, writer_hand}
+use Rattle.model_core.specs.{Actor, checkpointer_op, CheckpointerState, cleaner_op, CleanerState, flusher_op, FlusherState, Listed, next, read, reader_op, ReaderState, shared_answer, shared_left, SharedWords, took, user_op, UserState, writer_op, WriterState, wrote, checkpointer_hand, cleaner_hand, flusher_hand, hand, IsFreeToCheck, reader_hand, user_hand, writer_hand}
 use Rattle.model_core.specs.declared.limits.TheConstants.{FLUSH_LISTS}
 use Rattle.model_core.specs.declared.ops.Answer.{Answer}
 use Rattle.model_core.specs.declared.ops.Op.{Op}
@@ -20,7 +19,7 @@ use Rattle.model_core.specs.declared.steps.UserStep.{UserStep}
 use Rattle.model_core.specs.declared.steps.WriterStep.{WriterStep}
 use Rattle.model_core.specs.declared.words.Word.{Word}
 use Rattle.model_running.proofs.SlotHolders.{same_number}
-use Rattle.model_core.specs.Actors as actor
+use Rattle.model_core.specs.States as actor
 use Rattle.model_core.specs.declared.ops.Answer.TheVariants as answer
 use Rattle.model_core.specs.declared.ops.Op.TheVariants as op
 use Rattle.model_core.specs.declared.steps.CheckpointerStep.TheVariants as checkpointer_step

@@ -10,7 +10,7 @@ use Rattle.model_core.specs.declared.steps.WriterStep.{WriterStep}
 use Rattle.model_logcore.proofs.UserGroups.{none_of}
 use Rattle.model_logcore.specs.{count_of, sum_over_actors}
 use Rattle.model_ends.proofs.Outcome.{AdvanceCan, Can, IsAtFree, IsOpen, leaves, Takes, takes_in, takes_tries, tries, user_tries, writer_tries}
-use Rattle.model_core.specs.Actors as actor
+use Rattle.model_core.specs.States as actor
 use Rattle.model_core.specs.declared.steps.AdvanceStep.TheVariants as advance_step
 use Rattle.model_core.specs.declared.steps.UserStep.TheVariants as user_step
 use Rattle.model_core.specs.declared.steps.WriterStep.TheVariants as writer_step

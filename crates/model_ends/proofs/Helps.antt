@@ -7,10 +7,7 @@ use mathlib.Core.Option.{some}
 use native.Mathlib.Decide.{dec_le, ℕ_discrete}
 use Rattle.model_core.proofs.Groups.{tiles_at}
 use Rattle.model_core.proofs.Lsns.{lsn_le, lsn_near, lsn_same}
-use Rattle.model_core.specs.Holding.{user_holds_tail, writer_holds_tail}
-use Rattle.model_core.specs.{Actor, Advance, advance_holds, can_link, end_of, entries, Entry, entry, floor, FlusherState, flusher_holds, group_bytes, group_end, has_passed, has_room, holds, holds_tail, line, lsn, mode, read, SharedWords, UserState, writer_holds, WriterState}
-use Rattle.model_core.specs.LogSide.{LogSide}
-use Rattle.model_core.specs.Setup.{Setup}
+use Rattle.model_core.specs.{user_holds_tail, writer_holds_tail, Actor, Advance, advance_holds, can_link, end_of, entries, Entry, entry, floor, FlusherState, flusher_holds, group_bytes, group_end, has_passed, has_room, holds, holds_tail, line, lsn, mode, read, SharedWords, UserState, writer_holds, WriterState, LogSide, Setup}
 use Rattle.model_core.specs.declared.limits.TheConstants.{LOG_BUFFER, WRITTEN_LINKS}
 use Rattle.model_core.specs.declared.steps.AdvanceStep.{AdvanceStep}
 use Rattle.model_core.specs.declared.steps.FlusherStep.{FlusherStep}
@@ -18,13 +15,11 @@ use Rattle.model_core.specs.declared.steps.UserStep.{UserStep}
 use Rattle.model_core.specs.declared.steps.WriterStep.{WriterStep}
 use Rattle.model_base.specs.declared.limits.TheConstants.{MAX_GROUP}
 use Rattle.model_logcore.proofs.UserGroups.{count_front, count_some, rank_same}
-use Rattle.model_logcore.specs.{AdvanceAt, count_of, FlusherAt, FlusherFits, LogGhost, UserAt, UserFits, WriterAt, WriterFits}
-use Rattle.model_logcore.specs.LogFits.{Hand, HasLinked, HoldsWtail}
-use Rattle.model_logcore.specs.LogHalf.{LogHalf}
+use Rattle.model_logcore.specs.{AdvanceAt, count_of, FlusherAt, FlusherFits, LogGhost, UserAt, UserFits, WriterAt, WriterFits, Hand, HasLinked, HoldsWtail, LogHalf}
 use Rattle.model_ends.proofs.Further.{FlusherTold, Further, UserTold, WriterTold}
 use Rattle.model_ends.proofs.Helpers.{Found, group_at, own_user, seat_from, takes_low, tries_few, up_can}
 use Rattle.model_ends.proofs.Outcome.{AdvanceCan, Can, FlusherCan, HasLinkFree, IsAtFree, IsOpenStep, IsUp, UserCan, WriterCan, WriterTakes}
-use Rattle.model_core.specs.Actors as actor
+use Rattle.model_core.specs.States as actor
 use Rattle.model_core.specs.declared.steps.AdvanceStep.TheVariants as advance_step
 use Rattle.model_core.specs.declared.steps.FlusherStep.TheVariants as flusher_step
 use Rattle.model_core.specs.declared.steps.UserStep.TheVariants as user_step

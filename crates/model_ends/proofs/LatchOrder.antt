@@ -6,29 +6,23 @@ use lib.ListN.{get_elem?}
 use mathlib.Core.Option.{some}
 use native.Mathlib.Decide.{ℕ_discrete}
 use Rattle.model_core.proofs.Groups.{at_less}
-use Rattle.model_core.specs.{Actor, changes, CleanerState, current_page, Listed, page_words_at, SharedWords, UserState}
-use Rattle.model_core.specs.DataSide.{DataSide}
-use Rattle.model_core.specs.LogSide.{LogSide}
-use Rattle.model_core.specs.Setup.{Setup}
-use Rattle.model_core.specs.Waiting.{waits}
+use Rattle.model_core.specs.{Actor, changes, CleanerState, current_page, Listed, page_words_at, SharedWords, UserState, Core, flat, layout_of, lsn, DataSide, LogSide, Setup}
+use Rattle.model_core.specs.Program.{waits}
 use Rattle.model_core.specs.declared.steps.CleanerStep.{CleanerStep}
 use Rattle.model_core.specs.declared.steps.UserStep.{UserStep}
-use Rattle.model_logcore.specs.{LogGhost}
+use Rattle.model_logcore.specs.{LogGhost, sum_over_actors, left_to_reserve}
 use Rattle.model_pagecore.specs.{CleanerHasLatch, HasLatch, IsInBatch, PageGhost, UserPageFits}
 use Rattle.model_pagecore.specs.Latches.{UserHasLatch}
 use Rattle.model_pagecore.specs.PageHalf.{UserPagesAt}
-use Rattle.model_running.specs.RunningStore.{BothHalves}
+use Rattle.model_running.specs.Watermarks.{BothHalves}
 use Rattle.model_base.specs.declared.limits.TheConstants.{LSN_LIMIT, MIN_LOG_BLOCKS}
-use Rattle.model_core.specs.{Core, flat, layout_of, lsn}
-use Rattle.model_logcore.specs.{sum_over_actors}
-use Rattle.model_logcore.specs.LogHalf.{left_to_reserve}
 use Rattle.model_logcore.specs.LogLaws.{LogLaws}
 use Rattle.model_pagecore.specs.DataLaws.{DataLaws}
 use Rattle.model_running.specs.StartStore.{StartStore}
 use Rattle.model_ends.proofs.Beside.{Ascend, Ascends, reached}
 use Rattle.model_ends.proofs.Margin.{is_user}
 use Rattle.model_ends.specs.Alone.{CanReach}
-use Rattle.model_core.specs.Actors as actor
+use Rattle.model_core.specs.States as actor
 use Rattle.model_core.specs.declared.ops.Answer.TheVariants as answer
 use Rattle.model_core.specs.declared.steps.CleanerStep.TheVariants as cleaner_step
 use Rattle.model_core.specs.declared.steps.UserStep.TheVariants as user_step

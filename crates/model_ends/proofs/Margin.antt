@@ -2,9 +2,7 @@
 use Rattle.std.proofs.Common.{Bool, List, arith, cond, eqb, false, length, refl, true, ℕ, ◌%◌, ◌*◌, ◌+◌, ◌/◌, ◌==◌, ◌≡◌, ◌≤◌}
 use Rattle.std.specs.Prelude.{nat_lt, slice_index, slice_set}
 use Rattle.model_base.specs.declared.limits.TheConstants.{BLOCK_SIZE}
-use Rattle.model_core.specs.{Actor, Advance, advance_next, advance_op, after_link, answered, can_close, can_link, cells_of, change_at, changes, checkpointer_op, CheckpointerState, cleaner_op, CleanerState, closer_op, CloserState, current_page, first_of_batch, flusher_op, FlusherState, frame_count, frees, group_bytes, group_end, has_passed, has_room, is_whole, lsn, mode, next_count, page_words_at, read, reader_op, ReaderState, shared_left, SharedWords, stays_put, tail_of, tail_word, to_next_page, user_op, user_took, UserState, with_mark, with_page_words, word_step, writer_op, WriterState, wrote}
-use Rattle.model_core.specs.Groups.{CellWrite}
-use Rattle.model_core.specs.Setup.{Setup}
+use Rattle.model_core.specs.{Actor, Advance, advance_next, advance_op, after_link, answered, can_close, can_link, cells_of, change_at, changes, checkpointer_op, CheckpointerState, cleaner_op, CleanerState, closer_op, CloserState, current_page, first_of_batch, flusher_op, FlusherState, frame_count, frees, group_bytes, group_end, has_passed, has_room, is_whole, lsn, mode, next_count, page_words_at, read, reader_op, ReaderState, shared_left, SharedWords, stays_put, tail_of, tail_word, to_next_page, user_op, user_took, UserState, with_mark, with_page_words, word_step, writer_op, WriterState, wrote, CellWrite, Setup}
 use Rattle.model_core.specs.UserProgram.{with_close_room, with_link_room, without_close_room, without_link_room}
 use Rattle.model_core.specs.declared.ops.Op.{Op}
 use Rattle.model_core.specs.declared.steps.CheckpointerStep.{CheckpointerStep}
@@ -17,7 +15,7 @@ use Rattle.model_core.specs.declared.steps.WriterStep.{WriterStep}
 use Rattle.model_core.specs.declared.words.LinkBuffer.{LinkBuffer}
 use Rattle.model_log.specs.declared.layout.TheConstants.{BLOCK_DATA}
 use Rattle.model_logcore.specs.{sum_over_actors}
-use Rattle.model_core.specs.Actors as actor
+use Rattle.model_core.specs.States as actor
 use Rattle.model_core.specs.declared.ops.Op.TheVariants as op
 use Rattle.model_core.specs.declared.steps.AdvanceStep.TheVariants as advance_step
 use Rattle.model_core.specs.declared.steps.CheckpointerStep.TheVariants as checkpointer_step

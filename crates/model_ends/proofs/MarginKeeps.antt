@@ -7,20 +7,16 @@ use Rattle.model_base.specs.declared.limits.TheConstants.{BLOCK_SIZE, MAX_GROUP}
 use Rattle.model_core.proofs.Later.{took_later}
 use Rattle.model_core.proofs.Lists.{at_set}
 use Rattle.model_core.proofs.Lsns.{lsn_le}
-use Rattle.model_core.specs.{Actor, ceiling, changes, checkpointer_op, CheckpointerState, cleaner_op, closer_op, flusher_op, group_bytes, has_log_space, has_space, heard, Line, line_at, Listed, lsn, next, reader_op, shared_answer, shared_left, SharedWords, took, user_op, user_took, UserState, writer_op, WriterState}
-use Rattle.model_core.specs.Later.{IsSameActor}
-use Rattle.model_core.specs.LogSide.{LogSide}
-use Rattle.model_core.specs.Setup.{Setup}
+use Rattle.model_core.specs.{Actor, ceiling, changes, checkpointer_op, CheckpointerState, cleaner_op, closer_op, flusher_op, group_bytes, has_log_space, has_space, heard, Line, line_at, Listed, lsn, next, reader_op, shared_answer, shared_left, SharedWords, took, user_op, user_took, UserState, writer_op, WriterState, IsSameActor, LogSide, Setup}
 use Rattle.model_core.specs.declared.limits.TheConstants.{FREE_MARGIN}
 use Rattle.model_core.specs.declared.ops.Op.{Op}
 use Rattle.model_core.specs.declared.steps.CheckpointerStep.{CheckpointerStep}
 use Rattle.model_core.specs.declared.steps.UserStep.{UserStep}
 use Rattle.model_logcore.proofs.Frame.{total_set}
-use Rattle.model_logcore.specs.{CheckpointerAt, CheckpointerFits, LogGhost, sum_over_actors, UserFits, WriterFits}
-use Rattle.model_logcore.specs.LogHalf.{LogHalf}
+use Rattle.model_logcore.specs.{CheckpointerAt, CheckpointerFits, LogGhost, sum_over_actors, UserFits, WriterFits, LogHalf}
 use Rattle.model_ends.proofs.Margin.{checking_same, checkpointer_same, cleaner_same, closer_same, flusher_same, groups_near, HasMargin, is_user, pledge, reader_same, Same, state_pledge, took_none, user_pledge, user_same, writer_same}
 use Rattle.model_ends.proofs.Sizes.{sum_less}
-use Rattle.model_core.specs.Actors as actor
+use Rattle.model_core.specs.States as actor
 use Rattle.model_core.specs.declared.ops.Op.TheVariants as op
 use Rattle.model_core.specs.declared.steps.CheckpointerStep.TheVariants as checkpointer_step
 use Rattle.model_core.specs.declared.steps.UserStep.TheVariants as user_step

@@ -3,13 +3,10 @@ use Rattle.std.proofs.Common.{List, [], arith, drop, length, refl, suc, zero, â„
 use lib.ListN.{get_elem?}
 use mathlib.Core.Option.{some}
 use Rattle.model_core.proofs.Lsns.{lsn_le}
-use Rattle.model_core.specs.{Actor, Entry, FlusherState, group_bytes, IsBound, Line, lsn, read_place, SharedWords, UserState, WriterState}
-use Rattle.model_core.specs.LogSide.{LogSide}
-use Rattle.model_core.specs.Setup.{Setup}
+use Rattle.model_core.specs.{Actor, Entry, FlusherState, group_bytes, IsBound, Line, lsn, read_place, SharedWords, UserState, WriterState, LogSide, Setup}
 use Rattle.model_core.specs.declared.limits.TheConstants.{WRITTEN_LINKS}
 use Rattle.model_core.specs.declared.steps.UserStep.{UserStep}
-use Rattle.model_logcore.specs.{FlusherFits, LogGhost, sum_over_actors, UserAt, UserFits, WriterFits}
-use Rattle.model_logcore.specs.LogHalf.{LogHalf}
+use Rattle.model_logcore.specs.{FlusherFits, LogGhost, sum_over_actors, UserAt, UserFits, WriterFits, LogHalf}
 use Rattle.model_ends.proofs.Cost.{cost, flusher_cost, flusher_here, lines_steps, rest, steps_of, user_cost, words_cost, writer_cost}
 use Rattle.model_ends.proofs.Further.{Further}
 use Rattle.model_ends.proofs.Links.{links_few}
@@ -17,7 +14,7 @@ use Rattle.model_ends.proofs.Rank.{rank, rank_most}
 use Rattle.model_ends.proofs.Sizes.{sum_less}
 use Rattle.model_ends.proofs.UserTurns.{steps_from}
 use Rattle.model_ends.proofs.WriterTurns.{here_most}
-use Rattle.model_core.specs.Actors as actor
+use Rattle.model_core.specs.States as actor
 use Rattle.model_core.specs.declared.steps.AdvanceStep.TheVariants as advance_step
 use Rattle.model_core.specs.declared.steps.FlusherStep.TheVariants as flusher_step
 use Rattle.model_core.specs.declared.steps.FlusherStep.{FlusherStep}

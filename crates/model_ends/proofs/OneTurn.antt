@@ -6,16 +6,12 @@ use mathlib.Core.Option.{some}
 use native.Mathlib.Decide.{dec_le}
 use Rattle.model_core.proofs.Later.{took_later}
 use Rattle.model_core.proofs.Lsns.{lsn_le}
-use Rattle.model_core.specs.{Actor, Listed, lsn, next, shared_answer, shared_left, SharedWords, took, UserState}
-use Rattle.model_core.specs.Later.{IsSameActor}
-use Rattle.model_core.specs.DataSide.{DataSide}
-use Rattle.model_core.specs.LogSide.{LogSide}
-use Rattle.model_core.specs.Setup.{Setup}
+use Rattle.model_core.specs.{Actor, Listed, lsn, next, shared_answer, shared_left, SharedWords, took, UserState, IsSameActor, DataSide, LogSide, Setup}
 use Rattle.model_core.specs.declared.steps.UserStep.{UserStep}
 use Rattle.model_logcore.specs.{FlusherFits, LogGhost, UserFits, WriterFits}
 use Rattle.model_logcore.specs.LogLaws.{LogLaws}
 use Rattle.model_pagecore.specs.{PageGhost}
-use Rattle.model_running.specs.RunningStore.{BothHalves}
+use Rattle.model_running.specs.Watermarks.{BothHalves}
 use Rattle.model_running.specs.Schedule.{HaveEnded}
 use Rattle.model_ends.proofs.Cost.{cost, user_part, words_cost}
 use Rattle.model_ends.proofs.FlusherTurns.{flusher_turns, flusher_words, writer_words}
@@ -29,7 +25,7 @@ use Rattle.model_ends.proofs.Sizes.{HasRoomFor, sn_within, user_space, writer_sp
 use Rattle.model_ends.proofs.UserTurns.{user_turns}
 use Rattle.model_ends.proofs.WriterTurns.{writer_turns}
 use Rattle.model_ends.specs.Bound.{last_lsn}
-use Rattle.model_core.specs.Actors as actor
+use Rattle.model_core.specs.States as actor
 use Rattle.model_core.specs.declared.steps.AdvanceStep.TheVariants as advance_step
 use Rattle.model_core.specs.declared.steps.UserStep.TheVariants as user_step
 

@@ -3,10 +3,7 @@ use lib.ListN.{get_elem?}
 use mathlib.Core.Option.{some}
 use Rattle.std.proofs.Common.{Bool, List, arith, cond, eqb, false, refl, true, ℕ, ◌%◌, ◌≡◌, ◌≤◌}
 use Rattle.std.specs.Prelude.{slice_index, slice_set}
-use Rattle.model_core.specs.{Actor, checkpointer_op, CheckpointerState, cleaner_op, CleanerState, closer_op, CloserState, first_of_batch, flusher_op, FlusherState, Listed, lists_left, next, page_words_at, PageWords, reader_op, ReaderState, shared_left, SharedWords, with_page_words, without, writer_op, WriterState}
-use Rattle.model_core.specs.DataSide.{DataSide}
-use Rattle.model_core.specs.LogSide.{LogSide}
-use Rattle.model_core.specs.Setup.{Setup}
+use Rattle.model_core.specs.{Actor, checkpointer_op, CheckpointerState, cleaner_op, CleanerState, closer_op, CloserState, first_of_batch, flusher_op, FlusherState, Listed, lists_left, next, page_words_at, PageWords, reader_op, ReaderState, shared_left, SharedWords, with_page_words, without, writer_op, WriterState, DataSide, LogSide, Setup}
 use Rattle.model_core.specs.declared.limits.TheConstants.{FLUSH_LISTS}
 use Rattle.model_core.specs.declared.ops.Op.{Op}
 use Rattle.model_core.specs.declared.steps.CheckpointerStep.{CheckpointerStep}
@@ -18,11 +15,11 @@ use Rattle.model_core.specs.declared.steps.WriterStep.{WriterStep}
 use Rattle.model_logcore.specs.{CheckpointerAt, CheckpointerFits, LogGhost, WriterAt, WriterFits}
 use Rattle.model_pagecore.specs.{CloserFits, PageGhost}
 use Rattle.model_pagecore.specs.PageHalf.{CloserAt}
-use Rattle.model_running.specs.RunningStore.{BothHalves}
+use Rattle.model_running.specs.Watermarks.{BothHalves}
 use Rattle.model_ends.proofs.Margin.{is_user}
 use Rattle.model_ends.proofs.PageCost.{listed_by, marked_clear, marked_same, removed_fewer, words_steps}
 use Rattle.model_ends.proofs.TailsLess as tails
-use Rattle.model_core.specs.Actors as actor
+use Rattle.model_core.specs.States as actor
 use Rattle.model_core.specs.declared.ops.Op.TheVariants as op
 use Rattle.model_core.specs.declared.steps.AdvanceStep.TheVariants as advance_step
 use Rattle.model_core.specs.declared.steps.CheckpointerStep.TheVariants as checkpointer_step

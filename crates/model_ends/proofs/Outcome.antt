@@ -1,15 +1,14 @@
 -- What a turn comes to: something falls that is left to do, or nothing does and the actor waits, or FAILED has a code.
 use Rattle.std.proofs.Common.{cond, false, true, ℕ, ◌%◌, ◌+◌, ◌<◌, ◌==◌, ◌≡◌, ◌≢◌, ◌≤◌, ◌⊎◌}
 use Rattle.std.specs.Prelude.{slice_index}
-use Rattle.model_core.specs.{Actor, can_link, FlusherState, has_passed, has_room, mode, read, SharedWords, UserState, WriterState}
+use Rattle.model_core.specs.{Actor, can_link, FlusherState, has_passed, has_room, mode, read, SharedWords, UserState, WriterState, Advance}
 use Rattle.model_core.specs.declared.limits.TheConstants.{WRITTEN_LINKS}
 use Rattle.model_core.specs.declared.steps.AdvanceStep.{AdvanceStep}
 use Rattle.model_core.specs.declared.steps.FlusherStep.{FlusherStep}
 use Rattle.model_core.specs.declared.steps.UserStep.{UserStep}
 use Rattle.model_core.specs.declared.steps.WriterStep.{WriterStep}
-use Rattle.model_core.specs.States.{Advance}
 use Rattle.model_ends.proofs.Cost.{cost, user_part, words_cost}
-use Rattle.model_core.specs.Actors as actor
+use Rattle.model_core.specs.States as actor
 use Rattle.model_core.specs.declared.steps.AdvanceStep.TheVariants as advance_step
 use Rattle.model_core.specs.declared.steps.FlusherStep.TheVariants as flusher_step
 use Rattle.model_core.specs.declared.steps.UserStep.TheVariants as user_step

@@ -5,18 +5,15 @@ use Rattle.std.specs.Prelude.{slice_index, slice_set}
 use lib.ListN.{get_elem?}
 use mathlib.Core.Option.{some, some-injective}
 use Rattle.model_core.proofs.Lsns.{lsn_less}
-use Rattle.model_core.specs.{Actor, Blocks, checkpointer_holds, current_page, flusher_holds, flusher_op, flusher_took, FlusherState, holds, lent, Listed, LogServed, lsn, next, Nothing, page_words_at, shared_answer, shared_left, SharedWords, tail_word, took, user_op, UserState, with_page_words, writer_holds, writer_op, writer_took, WriterState, wrote}
-use Rattle.model_core.specs.LogSide.{LogSide}
-use Rattle.model_core.specs.Setup.{Setup}
+use Rattle.model_core.specs.{Actor, Blocks, checkpointer_holds, current_page, flusher_holds, flusher_op, flusher_took, FlusherState, holds, lent, Listed, LogServed, lsn, next, Nothing, page_words_at, shared_answer, shared_left, SharedWords, tail_word, took, user_op, UserState, with_page_words, writer_holds, writer_op, writer_took, WriterState, wrote, LogSide, Setup}
 use Rattle.model_core.specs.declared.steps.FlusherStep.{FlusherStep}
 use Rattle.model_core.specs.declared.steps.UserStep.{UserStep}
 use Rattle.model_core.specs.declared.steps.WriterStep.{WriterStep}
 use Rattle.model_logcore.proofs.DeviceSteps.{can_write}
-use Rattle.model_logcore.specs.{FlusherAt, FlusherFits, LogGhost, WriterAt, WriterFits}
-use Rattle.model_logcore.specs.LogHalf.{LogHalf}
+use Rattle.model_logcore.specs.{FlusherAt, FlusherFits, LogGhost, WriterAt, WriterFits, LogHalf}
 use Rattle.model_logcore.specs.LogLaws.{AfterSync, AfterWrite, LogLaws}
 use Rattle.model_ends.proofs.Further.{HasWriter, StoresCode}
-use Rattle.model_core.specs.Actors as actor
+use Rattle.model_core.specs.States as actor
 use Rattle.model_core.specs.declared.ops.Answer.TheVariants as answer
 use Rattle.model_core.specs.declared.ops.Op.TheVariants as op
 use Rattle.model_core.specs.declared.steps.AdvanceStep.TheVariants as advance_step

@@ -15,7 +15,7 @@ use Rattle.model_ends.proofs.Cost.{cost, user_part, words_cost}
 use Rattle.model_ends.proofs.Helpers.{Found, Helper, takes_low, tries_few}
 use Rattle.model_ends.proofs.Outcome.{Can, Falls, FlusherCan, HasLinkFree, HasTold, IsAtFree, IsOpen, IsOpenStep, leaves, Takes, takes_in, tries, UserCan, Waits, WriterCan, WriterTakes}
 use Rattle.model_ends.proofs.Sizes.{sum_less}
-use Rattle.model_core.specs.Actors as actor
+use Rattle.model_core.specs.States as actor
 use Rattle.model_core.specs.declared.steps.AdvanceStep.TheVariants as advance_step
 use Rattle.model_core.specs.declared.steps.FlusherStep.TheVariants as flusher_step
 use Rattle.model_core.specs.declared.steps.UserStep.TheVariants as user_step

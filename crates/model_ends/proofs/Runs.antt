@@ -6,11 +6,8 @@ use mathlib.Core.Option.{some}
 use native.Mathlib.Decide.{dec_le}
 use Rattle.model_core.proofs.Groups.{at_less}
 use Rattle.model_core.proofs.Later.{took_later}
-use Rattle.model_core.specs.{Actor, Core, lsn, next, shared_left, SharedWords, took}
-use Rattle.model_core.specs.DataSide.{DataSide}
-use Rattle.model_core.specs.LogSide.{LogSide}
-use Rattle.model_core.specs.Setup.{Setup}
-use Rattle.model_core.specs.Turn.{Turn}
+use Rattle.model_core.specs.{Actor, Core, lsn, next, shared_left, SharedWords, took, DataSide, LogSide, Setup}
+use Rattle.model_core.specs.Program.{Turn}
 use Rattle.model_core.specs.declared.limits.TheConstants.{WRITTEN_LINKS}
 use Rattle.model_core.specs.declared.ops.Answer.{Answer}
 use Rattle.model_core.specs.declared.ops.Step.{Step}

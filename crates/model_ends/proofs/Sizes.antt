@@ -7,18 +7,13 @@ use lib.ListN.{get_elem?}
 use mathlib.Core.Option.{some}
 use Rattle.model_base.specs.declared.limits.TheConstants.{BLOCK_SIZE}
 use Rattle.model_core.proofs.Lsns.{lsn_le}
-use Rattle.model_core.specs.{Actor, ceiling, entries, entries_from, Entry, has_log_space, Line, line_at, lsn, SharedWords, sum_of, Tiles, WriterState}
-use Rattle.model_core.specs.Later.{IsSameActor}
-use Rattle.model_core.specs.LogSide.{LogSide}
-use Rattle.model_core.specs.Setup.{Setup}
-use Rattle.model_core.specs.StartWords.{start_checkpoint}
+use Rattle.model_core.specs.{Actor, ceiling, entries, entries_from, Entry, has_log_space, Line, line_at, lsn, SharedWords, sum_of, Tiles, WriterState, IsSameActor, LogSide, Setup, start_checkpoint}
 use Rattle.model_core.specs.declared.limits.TheConstants.{FREE_MARGIN}
 use Rattle.model_logcore.proofs.Frame.{total_set}
-use Rattle.model_logcore.specs.{LogGhost, sum_over_actors}
-use Rattle.model_logcore.specs.LogHalf.{LogHalf, lengths}
+use Rattle.model_logcore.specs.{LogGhost, sum_over_actors, LogHalf, lengths}
 use Rattle.model_ends.proofs.Cost.{lines_steps, steps_of}
 use Rattle.model_ends.specs.Bound.{bytes_of, last_lsn}
-use Rattle.model_core.specs.Actors as actor
+use Rattle.model_core.specs.States as actor
 
 -- an actor keeps its lines
 pub bytes_same : (a b : Actor) → IsSameActor a b → bytes_of b ≡ bytes_of a

@@ -3,19 +3,15 @@ use Rattle.std.proofs.Math.Nat.{mul-le-mul_right}
 use Rattle.std.proofs.Common.{List, [], arith, drop, inl, length, refl, subst, suc, sym, zero, ℕ, ◌*◌, ◌+◌, ◌-◌, ◌/◌, ◌<◌, ◌∷◌, ◌≡◌, ◌≤◌}
 use Rattle.model_base.specs.declared.limits.TheConstants.{LSN_LIMIT}
 use Rattle.model_core.proofs.Lsns.{lsn_below}
-use Rattle.model_core.specs.{Actor, Core, FlusherState, Line, Listed, lsn, WriterState}
-use Rattle.model_core.specs.DataSide.{DataSide}
-use Rattle.model_core.specs.LogSide.{LogSide}
-use Rattle.model_core.specs.Setup.{Setup}
+use Rattle.model_core.specs.{Actor, Core, FlusherState, Line, Listed, lsn, WriterState, DataSide, LogSide, Setup}
 use Rattle.model_core.specs.declared.limits.TheConstants.{WRITTEN_LINKS}
 use Rattle.model_logcore.proofs.NewUsers.{new_step}
 use Rattle.model_logcore.proofs.StartHolds.{start}
-use Rattle.model_logcore.specs.{StartActor, sum_over_actors}
-use Rattle.model_logcore.specs.LogHalf.{left_to_reserve, lengths}
+use Rattle.model_logcore.specs.{StartActor, sum_over_actors, left_to_reserve, lengths}
 use Rattle.model_logcore.specs.LogLaws.{LogLaws}
 use Rattle.model_pagecore.specs.DataLaws.{DataLaws}
 use Rattle.model_running.proofs.StartRunning.{both_start, start_pages}
-use Rattle.model_running.specs.RunningStore.{BothHalves}
+use Rattle.model_running.specs.Watermarks.{BothHalves}
 use Rattle.model_running.specs.PlainStore.{plain_store}
 use Rattle.model_running.specs.Schedule.{IsSpent, TakesTurns}
 use Rattle.model_ends.proofs.Cost.{lines_steps, steps_of}
@@ -24,7 +20,7 @@ use Rattle.model_ends.proofs.Runs.{can_reach, few_turns, Reached}
 use Rattle.model_ends.proofs.Sizes.{sum_less}
 use Rattle.model_ends.specs.Alone.{CanReach, IsLogActor, StartsAlone}
 use Rattle.model_ends.specs.Bound.{bytes_of, last_lsn, lines_of, most_turns}
-use Rattle.model_core.specs.Actors as actor
+use Rattle.model_core.specs.States as actor
 
 -- the steps of all lines by their number and bytes, and how far so many bytes reach in lsns
 steps_are : (lines : List Line) → lines_steps lines ≡ 12 * length lines + lengths lines

@@ -1,11 +1,8 @@
 -- A running store with the log alone, over its words by name; and what a turn leaves of it.
 use Rattle.std.proofs.Common.{List, ap, arith, cond, eqb, refl, set, subst, sym, true, ℕ, ◌%◌, ◌+◌, ◌<◌, ◌∙◌, ◌≡◌}
 use Rattle.std.specs.Prelude.{slice_index}
-use Rattle.model_core.specs.{Actor, answer_of, appended, Core, DataServed, filled, Filling, flat, layout_of, lent, list_word, Listed, lists_left, LogServed, next, shared_answer, shared_left, SharedWords, took, without, words_left}
-use Rattle.model_core.specs.DataSide.{DataSide}
-use Rattle.model_core.specs.LogSide.{LogSide}
-use Rattle.model_core.specs.Setup.{Setup}
-use Rattle.model_core.specs.Turn.{Turn}
+use Rattle.model_core.specs.{Actor, answer_of, appended, Core, DataServed, filled, Filling, flat, layout_of, lent, list_word, Listed, lists_left, LogServed, next, shared_answer, shared_left, SharedWords, took, without, words_left, DataSide, LogSide, Setup}
+use Rattle.model_core.specs.Program.{Turn}
 use Rattle.model_core.specs.declared.ops.Answer.{Answer}
 use Rattle.model_core.specs.declared.ops.Op.{Op}
 use Rattle.model_core.specs.declared.ops.Step.{Step}
@@ -18,10 +15,10 @@ use Rattle.model_running.proofs.FailedStays.{turn_keeps_failed}
 use Rattle.model_running.proofs.FlatWords.{flat_answer, flat_left, flat_read}
 use Rattle.model_running.proofs.ReadStays.{IsFilled}
 use Rattle.model_running.proofs.Turns.{next_words}
-use Rattle.model_running.specs.RunningStore.{BothHalves, IsRunning}
+use Rattle.model_running.specs.Watermarks.{BothHalves, IsRunning}
 use Rattle.model_ends.proofs.Further.{Further, Told}
 use Rattle.model_ends.proofs.FurtherKeeps.{further_kept}
-use Rattle.model_core.specs.Actors as actor
+use Rattle.model_core.specs.States as actor
 use Rattle.model_core.specs.declared.ops.Op.TheVariants as op
 use Rattle.model_core.specs.declared.words.Layout.{Layout}
 use Rattle.model_core.specs.declared.words.Word.TheVariants as word

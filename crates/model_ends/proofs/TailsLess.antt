@@ -2,19 +2,14 @@
 use Rattle.std.proofs.Common.{Bool, List, ap, arith, cond, eqb, eqb-true, false, refl, sym, true, ℕ, ◌%◌, ◌+◌, ◌∙◌, ◌≡◌, ◌≤◌}
 use Rattle.std.specs.Prelude.{slice_index}
 use Rattle.model_core.proofs.Tails.{tail_in}
-use Rattle.model_core.specs.{Advance, advance_op, Listed, lsn, shared_left, SharedWords, tail_of, tail_word, wrote}
-use Rattle.model_core.specs.DataSide.{DataSide}
-use Rattle.model_core.specs.LogSide.{LogSide}
-use Rattle.model_core.specs.Setup.{Setup}
+use Rattle.model_core.specs.{Advance, advance_op, Listed, lsn, shared_left, SharedWords, tail_of, tail_word, wrote, DataSide, LogSide, Setup, Actor}
 use Rattle.model_core.specs.declared.limits.TheConstants.{CLOSED_LINKS, WRITTEN_LINKS}
 use Rattle.model_core.specs.declared.steps.AdvanceStep.{AdvanceStep}
 use Rattle.model_logcore.proofs.AdvanceSteps.{tails}
-use Rattle.model_logcore.specs.{AdvanceAt, LogGhost}
-use Rattle.model_logcore.specs.LogHalf.{LogHalf}
+use Rattle.model_logcore.specs.{AdvanceAt, LogGhost, LogHalf}
 use Rattle.model_pagecore.specs.{PageGhost}
 use Rattle.model_pagecore.specs.PageFacts.{ClosedLinks}
 use Rattle.model_pagecore.specs.PageHalf.{ClosingAt}
-use Rattle.model_core.specs.Actors.{Actor}
 use Rattle.model_ends.proofs.Links.{links_less}
 use Rattle.model_ends.proofs.PageCost.{words_steps}
 use Rattle.model_core.specs.declared.steps.AdvanceStep.TheVariants as advance_step

@@ -2,8 +2,7 @@
 use Rattle.std.proofs.Common.{Bool, List, [], ap, arith, cond, drop, eq-eqb, eqb, false, length, refl, suc, true, ℕ, ◌*◌, ◌+◌, ◌<◌, ◌==◌, ◌∙◌, ◌∷◌, ◌≡◌, ◌≤◌}
 use Rattle.std.proofs.lemmas.Bool.{eqb-false}
 use Rattle.std.proofs.lemmas.List.{drop_more}
-use Rattle.model_core.specs.{after_link, answered, cells_of, change_at, changes, frame_count, frame_word, is_whole, Line, line_at, mode, PageChange, to_next_page, UserState, word_step}
-use Rattle.model_core.specs.Groups.{CellWrite}
+use Rattle.model_core.specs.{after_link, answered, cells_of, change_at, changes, frame_count, frame_word, is_whole, Line, line_at, mode, PageChange, to_next_page, UserState, word_step, CellWrite}
 use Rattle.model_core.specs.UserProgram.{same_word, with_close_room}
 use Rattle.model_core.specs.declared.steps.AdvanceStep.{AdvanceStep}
 use Rattle.model_ends.proofs.PageCost.{after_page, cells_left, from_pages, later_steps, line_steps, pages_steps, user_steps}

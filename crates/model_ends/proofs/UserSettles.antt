@@ -4,10 +4,7 @@ use lib.ListN.{get_elem?}
 use mathlib.Core.Option.{some}
 use Rattle.std.proofs.Common.{Bool, List, None, arith, cond, eqb, eqb-true, false, inl, inr, length, ltb, refl, subst, sym, true, ⊎_elim, ℕ, ◌%◌, ◌+◌, ◌-◌, ◌/◌, ◌<◌, ◌==◌, ◌≡◌, ◌≤◌, ◌⊎◌}
 use Rattle.std.specs.Prelude.{slice_index, slice_set}
-use Rattle.model_core.specs.{Actor, advance_next, advance_op, advance_took, loaded_tail, after_link, answered, appended, can_close, can_link, cells_of, changes, current_page, frame_count, frame_word, frees, group_bytes, group_end, has_passed, has_room, has_space, heard, Listed, lists_left, lsn, next, next_count, page_words_at, PageWords, shared_answer, shared_left, SharedWords, stays_put, stored_word, tail_of, to_next_page, took, user_op, user_took, UserState, with_mark, with_page_words}
-use Rattle.model_core.specs.DataSide.{DataSide}
-use Rattle.model_core.specs.LogSide.{LogSide}
-use Rattle.model_core.specs.Setup.{Setup}
+use Rattle.model_core.specs.{Actor, advance_next, advance_op, advance_took, loaded_tail, after_link, answered, appended, can_close, can_link, cells_of, changes, current_page, frame_count, frame_word, frees, group_bytes, group_end, has_passed, has_room, has_space, heard, Listed, lists_left, lsn, next, next_count, page_words_at, PageWords, shared_answer, shared_left, SharedWords, stays_put, stored_word, tail_of, to_next_page, took, user_op, user_took, UserState, with_mark, with_page_words, DataSide, LogSide, Setup}
 use Rattle.model_core.specs.UserProgram.{with_close_room, with_link_room, without_close_room, without_link_room}
 use Rattle.model_core.specs.declared.limits.TheConstants.{CLOSED_LINKS, FLUSH_LISTS, WRITTEN_LINKS}
 use Rattle.model_core.specs.declared.ops.Op.{Op}
@@ -17,7 +14,7 @@ use Rattle.model_log.specs.declared.layout.TheConstants.{BLOCK_DATA}
 use Rattle.model_logcore.specs.{LogGhost, UserAt, UserFits}
 use Rattle.model_pagecore.specs.{PageGhost, UserPageFits}
 use Rattle.model_pagecore.specs.PageHalf.{UserClosingAt, UserPagesAt}
-use Rattle.model_running.specs.RunningStore.{BothHalves}
+use Rattle.model_running.specs.Watermarks.{BothHalves}
 use Rattle.model_ends.proofs.Links.{links_more}
 use Rattle.model_ends.proofs.PageCost.{appended_more, listed_by, marked, marked_more, marked_same, user_steps, words_steps}
 use Rattle.model_ends.proofs.TailsLess as tails
@@ -25,7 +22,7 @@ use Rattle.model_ends.proofs.Outcome.{IsOpenStep}
 use Rattle.model_ends.proofs.UserNoMore.{left_of}
 use Rattle.model_core.proofs.Lanes.{next_some}
 use Rattle.model_ends.proofs.UserLess.{advanced_less, answered_less, closed_less, closing_less, left, linked_less, stored_less, turned_less}
-use Rattle.model_core.specs.Actors as actor
+use Rattle.model_core.specs.States as actor
 use Rattle.model_core.specs.declared.ops.Answer.TheVariants as answer
 use Rattle.model_core.specs.declared.steps.AdvanceStep.TheVariants as advance_step
 use Rattle.model_core.specs.declared.steps.UserStep.TheVariants as user_step

@@ -7,21 +7,17 @@ use Rattle.model_base.specs.declared.limits.TheConstants.{BLOCK_SIZE}
 use Rattle.model_core.proofs.Lanes.{next_some}
 use Rattle.model_core.proofs.Lsns.{lsn_le}
 use Rattle.model_core.proofs.Tails.{held_in, tail_in}
-use Rattle.model_core.specs.{Actor, answered, can_link, changes, group_bytes, group_end, has_passed, has_room, heard, is_held, Line, Listed, line_at, lsn, mode, next, next_count, read, shared_answer, shared_left, SharedWords, tail_of, tail_word, took, user_op, user_took, UserState, with_mark, wrote}
-use Rattle.model_core.specs.LogSide.{LogSide}
-use Rattle.model_core.specs.Setup.{Setup}
+use Rattle.model_core.specs.{Actor, answered, can_link, changes, group_bytes, group_end, has_passed, has_room, heard, is_held, Line, Listed, line_at, lsn, mode, next, next_count, read, shared_answer, shared_left, SharedWords, tail_of, tail_word, took, user_op, user_took, UserState, with_mark, wrote, LogSide, Setup}
 use Rattle.model_core.specs.declared.steps.AdvanceStep.{AdvanceStep}
 use Rattle.model_core.specs.declared.steps.UserStep.{UserStep}
 use Rattle.model_core.specs.declared.limits.TheConstants.{ADVANCE_PLACES, FREE_MARGIN, WRITTEN_LINKS}
 use Rattle.model_log.specs.declared.layout.TheConstants.{BLOCK_DATA}
 use Rattle.model_logcore.proofs.AdvanceSteps.{is_free, tails}
-use Rattle.model_logcore.specs.{LogGhost, UserAt}
-use Rattle.model_logcore.specs.LogFits.{AdvanceAt}
-use Rattle.model_logcore.specs.LogHalf.{LogHalf}
+use Rattle.model_logcore.specs.{LogGhost, UserAt, AdvanceAt, LogHalf}
 use Rattle.model_ends.proofs.Cost.{cost, lines_steps, rest, user_cost}
 use Rattle.model_ends.proofs.Links.{links_less, links_more}
 use Rattle.model_ends.proofs.Outcome.{Can, IsOpen, IsOpenStep, leaves, Settled, Stands, tries, user_leaves, UserCan}
-use Rattle.model_core.specs.Actors as actor
+use Rattle.model_core.specs.States as actor
 use Rattle.model_core.specs.declared.steps.AdvanceStep.TheVariants as advance_step
 use Rattle.model_core.specs.declared.steps.UserStep.TheVariants as user_step
 use Rattle.model_core.specs.declared.words.Word.TheVariants as word

@@ -7,21 +7,18 @@ use Rattle.model_core.proofs.Lanes.{lanes_long, left_some}
 use Rattle.model_core.proofs.Lsns.{lsn_le, lsn_less}
 use Rattle.model_core.proofs.Tails.{held_in, tail_in}
 unfoldable use Rattle.model_core.specs.{lanes}
-use Rattle.model_core.specs.{Actor, cell_of, full_blocks, has_log_space, has_whole_word, is_held, lane_of, left_in_word, Listed, lsn, next, read_place, shared_answer, shared_left, SharedWords, stands_outside, tail_of, tail_word, took, word_end, writer_op, writer_took, WriterState, wrote}
-use Rattle.model_core.specs.LogSide.{LogSide}
-use Rattle.model_core.specs.Setup.{Setup}
+use Rattle.model_core.specs.{Actor, cell_of, full_blocks, has_log_space, has_whole_word, is_held, lane_of, left_in_word, Listed, lsn, next, read_place, shared_answer, shared_left, SharedWords, stands_outside, tail_of, tail_word, took, word_end, writer_op, writer_took, WriterState, wrote, LogSide, Setup}
 use Rattle.model_core.specs.declared.ops.Answer.{Answer}
 use Rattle.model_core.specs.declared.steps.AdvanceStep.{AdvanceStep}
 use Rattle.model_core.specs.declared.steps.WriterStep.{WriterStep}
 use Rattle.model_core.specs.declared.limits.TheConstants.{ADVANCE_PLACES, WRITTEN_LINKS}
 use Rattle.model_log.specs.declared.layout.TheConstants.{BLOCK_DATA}
 use Rattle.model_logcore.proofs.AdvanceSteps.{is_free, tails}
-use Rattle.model_logcore.specs.{LogGhost, WriterAt, WriterFits}
-use Rattle.model_logcore.specs.LogHalf.{LogHalf}
+use Rattle.model_logcore.specs.{LogGhost, WriterAt, WriterFits, LogHalf}
 use Rattle.model_ends.proofs.Cost.{busy_cost, cost, idle_cost, writer_cost, writer_here}
 use Rattle.model_ends.proofs.Links.{links_less}
 use Rattle.model_ends.proofs.Outcome.{Can, Outcome, Stands, Takes, takes_in, tries, WriterCan, WriterTakes}
-use Rattle.model_core.specs.Actors as actor
+use Rattle.model_core.specs.States as actor
 use Rattle.model_core.specs.declared.ops.Answer.TheVariants as answer
 use Rattle.model_core.specs.declared.steps.AdvanceStep.TheVariants as advance_step
 use Rattle.model_core.specs.declared.steps.WriterStep.TheVariants as writer_step

@@ -3,18 +3,14 @@ use Rattle.std.specs.Prelude.{List, [], false, suc, true, zero, ℕ, ◌+◌, �
 use lib.ListN.{get_elem?}
 use mathlib.Core.Option.{some}
 use Rattle.model_base.specs.declared.limits.TheConstants.{BLOCK_SIZE, LSN_LIMIT}
-use Rattle.model_core.specs.{Actor, Core, flat, FlusherState, layout_of, Listed, SharedWords, WriterState}
-use Rattle.model_core.specs.DataSide.{DataSide}
-use Rattle.model_core.specs.LogSide.{LogSide}
-use Rattle.model_core.specs.Setup.{Setup}
-use Rattle.model_core.specs.StartWords.{start_checkpoint}
-use Rattle.model_core.specs.Turn.{Turn}
+use Rattle.model_core.specs.{Actor, Core, flat, FlusherState, layout_of, Listed, SharedWords, WriterState, DataSide, LogSide, Setup, start_checkpoint}
+use Rattle.model_core.specs.Program.{Turn}
 use Rattle.model_core.specs.declared.limits.TheConstants.{FREE_MARGIN}
 use Rattle.model_core.specs.declared.ops.Answer.{Answer}
 use Rattle.model_core.specs.declared.ops.Step.{Step}
 use Rattle.model_running.specs.StartStore.{StartStore}
 use Rattle.model_ends.specs.Bound.{last_lsn}
-use Rattle.model_core.specs.Actors as actor
+use Rattle.model_core.specs.States as actor
 
 -- users, the writer and the flusher
 abbrev pub IsLogActor : Actor → Type 0

@@ -1,10 +1,8 @@
 -- Within how many turns a run with the log alone ends: a number that its script and sizes give.
 use Rattle.std.specs.Prelude.{List, length, ℕ, ◌*◌, ◌+◌}
-use Rattle.model_core.specs.{Actor, lsn}
-use Rattle.model_core.specs.Setup.{Setup}
-use Rattle.model_logcore.specs.{sum_over_actors}
-use Rattle.model_logcore.specs.LogHalf.{lengths}
-use Rattle.model_core.specs.Actors as actor
+use Rattle.model_core.specs.{Actor, lsn, Setup}
+use Rattle.model_logcore.specs.{sum_over_actors, lengths}
+use Rattle.model_core.specs.States as actor
 
 -- the lines of an actor, and the bytes of their groups
 abbrev pub lines_of : Actor → ℕ

@@ -9,8 +9,7 @@ use Rattle.std.proofs.lemmas.List.Elements.{All-append, All-replicate}
 use Rattle.std.proofs.Math.Nat.{mod-eq_of_lt}
 use Rattle.byteorder.specs.Numbers.{big_number-reads_back}
 use Rattle.model_base.specs.{field, padded_to}
-use Rattle.model_log.specs.Lsn.{block_number}
-use Rattle.model_log.specs.Block.{with_checksum, length_of, block_text, block_view, fits_number, is_length, is_first, fits_checksum, is_block_at, read_block, data_of}
+use Rattle.model_log.specs.Block.{block_number, with_checksum, length_of, block_text, block_view, fits_number, is_length, is_first, fits_checksum, is_block_at, read_block, data_of}
 use Rattle.model_log.specs.declared.block.BlockView.{BlockView}
 use Rattle.model_log.specs.declared.layout.TheConstants.{BLOCK_DATA}
 use Rattle.model_log.proofs.Checksums.{IsByte, bytes-bytes_high_first}

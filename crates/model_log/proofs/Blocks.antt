@@ -2,8 +2,7 @@
 use Rattle.std.proofs.Common.{◌≡◌, ℕ, List, ◌++◌, length, ap}
 use Rattle.std.specs.Int.{bytes_high_first}
 use Rattle.model_base.specs.{padded_to}
-use Rattle.model_log.specs.Lsn.{block_number}
-use Rattle.model_log.specs.Block.{with_checksum, length_of, block_text}
+use Rattle.model_log.specs.Block.{block_number, with_checksum, length_of, block_text}
 
 -- the fields of a block and its data, one after the other, make its text
 pub block_text-from : (lsn : ℕ) (content : List ℕ) (first ckpt : ℕ) (bytes : List ℕ)

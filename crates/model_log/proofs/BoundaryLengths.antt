@@ -1,9 +1,8 @@
 -- How many bytes the block at b holds for a boundary.
 use Rattle.std.proofs.Common.{◌≡◌, ◌≤◌, ◌<◌, ◌+◌, ◌-◌, ◌*◌, ◌%◌, ℕ, min, List, length, take, drop, ap, refl, ◌∙◌, length-take, length-drop, arith}
 use Rattle.std.proofs.lemmas.Bool.Decides.{nat_tests}
-use Rattle.model_log.specs.Lsn.{sn_of, block_of, IsAtDataStart, IsDataLsn}
-use Rattle.model_log.specs.Block.{length_of}
-use Rattle.model_log.specs.Boundary.{stream_between, content_at, length_at}
+use Rattle.model_log.specs.Block.{sn_of, block_of, IsAtDataStart, length_of, length_at}
+use Rattle.model_log.specs.Boundary.{IsDataLsn, stream_between, content_at}
 use Rattle.model_log.specs.declared.layout.TheConstants.{BLOCK_DATA}
 
 -- the pieces of a stream, as they are cut

@@ -5,12 +5,9 @@ use Rattle.std.proofs.lemmas.List.{take-append-le}
 use Rattle.std.proofs.lemmas.List.Elements.{All-take, All-drop}
 use Rattle.std.proofs.lemmas.Bool.Decides.{nat_tests}
 use Rattle.model_log.specs.declared.group.Whole.{Whole}
-use Rattle.model_log.specs.Group.{groups_of, stream_of}
-use Rattle.model_log.specs.Record.{IsByte}
-use Rattle.model_log.specs.Lsn.{sn_of, IsAtDataStart, IsDataLsn}
-use Rattle.model_log.specs.Run.{IsBoundary, IsRunOf, spans_of, last_span_end}
-use Rattle.model_log.specs.Block.{block_text, length_of, is_first, read_block, data_of}
-use Rattle.model_log.specs.Boundary.{IsBoundaryBlock, stream_between, content_at, first_at, length_at}
+use Rattle.model_log.specs.Group.{groups_of, stream_of, IsBoundary, IsRunOf, spans_of, last_span_end, IsByte}
+use Rattle.model_log.specs.Block.{sn_of, IsAtDataStart, block_text, length_of, is_first, read_block, data_of, length_at}
+use Rattle.model_log.specs.Boundary.{IsDataLsn, IsBoundaryBlock, stream_between, content_at, first_at}
 use Rattle.model_log.specs.declared.block.BlockView.{BlockView}
 use Rattle.model_log.specs.declared.layout.TheConstants.{BLOCK_DATA}
 use Rattle.model_log.proofs.BlockRound.{view-reads_back, data-reads_back}

@@ -8,12 +8,11 @@ use Rattle.std.proofs.lemmas.List.Elements.{All-append}
 use Rattle.byteorder.specs.Numbers.{big_number-reads_back}
 use Rattle.model_base.specs.declared.limits.TheConstants.{START_LSN}
 use Rattle.model_base.specs.{field, padded_to}
-use Rattle.model_log.specs.Device.{IsLayout, place_in, round_of}
+use Rattle.model_log.specs.Device.{place_in, round_of, place_of, checkpoint_text, is_checkpoint, read_checkpoint}
+use Rattle.model_log.specs.Ring.{IsLayout}
 use Rattle.model_log.specs.declared.layout.Layout.{Layout}
 use Rattle.model_log.specs.declared.layout.TheConstants.{RING_SIZE}
-use Rattle.model_log.specs.Lsn.{block_of}
-use Rattle.model_log.specs.Block.{with_checksum, fits_checksum}
-use Rattle.model_log.specs.Checkpoint.{place_of, checkpoint_text, is_checkpoint, read_checkpoint}
+use Rattle.model_log.specs.Block.{block_of, with_checksum, fits_checksum}
 use Rattle.model_log.proofs.Checksums.{IsByte, bytes-bytes_high_first}
 use Rattle.model_log.proofs.Checkpoints.{checkpoint_fields, checkpoint_text-from}
 use Rattle.model_log.proofs.Sealed.{field-padded, length-padded, bytes-padded, fits_checksum-sealed}

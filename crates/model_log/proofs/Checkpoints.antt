@@ -2,9 +2,8 @@
 use Rattle.std.proofs.Common.{◌≡◌, ℕ, List, ◌++◌, ap}
 use Rattle.std.specs.Int.{bytes_high_first}
 use Rattle.model_base.specs.{padded_to}
-use Rattle.model_log.specs.Device.{place_in}
+use Rattle.model_log.specs.Device.{place_in, checkpoint_text}
 use Rattle.model_log.specs.Block.{with_checksum}
-use Rattle.model_log.specs.Checkpoint.{checkpoint_text}
 use Rattle.model_log.specs.declared.layout.Layout.{Layout}
 use Rattle.model_log.specs.declared.layout.TheConstants.{RING_SIZE}
 

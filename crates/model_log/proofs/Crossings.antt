@@ -3,9 +3,9 @@ use Rattle.std.proofs.Common.{◌≡◌, ◌≤◌, ◌<◌, ◌+◌, ◌-◌, �
 use Rattle.std.proofs.lemmas.Bool.{cases_Bool, cases_lt}
 use Rattle.std.proofs.lemmas.Bool.Decides.{nat_tests}
 use Rattle.model_log.specs.declared.group.Whole.{Whole}
-use Rattle.model_log.specs.Lsn.{block_of, IsDataLsn, IsAtDataStart}
-use Rattle.model_log.specs.Run.{Span, IsBoundary, last_span_end, span_of, spans_of, IsRunOf}
-use Rattle.model_log.specs.Boundary.{ends_in, crossing_end, first_at}
+use Rattle.model_log.specs.Block.{block_of, IsAtDataStart}
+use Rattle.model_log.specs.Boundary.{IsDataLsn, ends_in, crossing_end, first_at}
+use Rattle.model_log.specs.Group.{Span, IsBoundary, last_span_end, span_of, spans_of, IsRunOf}
 use Rattle.model_log.proofs.Runs.{First, first-of, run-first, boundary-reached, boundary-start, data-start}
 
 -- the search for the group that crosses, one group on

@@ -5,9 +5,8 @@ use Rattle.std.proofs.lemmas.Bool.{cases_lt}
 use Rattle.model_log.specs.declared.group.Whole.{Whole}
 use Rattle.model_log.specs.declared.layout.TheConstants.{BLOCK_DATA}
 use Rattle.model_log.specs.Group.{groups_of, stream_of}
-use Rattle.model_log.specs.Lsn.{sn_of, block_of, IsAtDataStart}
-use Rattle.model_log.specs.Block.{block_text}
-use Rattle.model_log.specs.Boundary.{stream_between, content_at, framed, blocks_between, IsBoundaryBlock, IsGivenTo}
+use Rattle.model_log.specs.Block.{sn_of, block_of, IsAtDataStart, block_text, framed, blocks_between}
+use Rattle.model_log.specs.Boundary.{stream_between, content_at, IsBoundaryBlock, IsGivenTo}
 use Rattle.model_log.proofs.BlockRound.{length-block_text}
 use Rattle.model_log.proofs.BoundaryLengths.{sn_of-rises, sn_of-start, sn_of-block, sn_of-next, sn_of-header}
 

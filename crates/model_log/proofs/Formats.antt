@@ -5,8 +5,7 @@ use Rattle.model_base.proofs.ShapeLimits.{early_facts, early_true, sizes_facts, 
 use Rattle.model_base.specs.declared.shape.Shape.{Shape}
 use Rattle.model_base.specs.declared.limits.TheConstants.{EARLY_SLOTS, SLOTS}
 use Rattle.model_base.specs.{IsWithinLimits}
-use Rattle.model_log.specs.Device.{layout_of, run_layout}
-use Rattle.model_log.specs.Head.{has_sizes_of, run_format}
+use Rattle.model_log.specs.Device.{layout_of, run_layout, has_sizes_of, run_format}
 use Rattle.model_log.specs.declared.head.Format.{Format}
 use Rattle.model_log.specs.declared.head.Format.TheVariants.{One, Two, Three}
 use Rattle.model_log.specs.declared.layout.Layout.{Layout}

@@ -6,12 +6,12 @@ use Rattle.std.proofs.lemmas.Bool.{eq-eqb, ltb-true}
 use Rattle.std.proofs.lemmas.List.Elements.{All-append, All-weaker}
 use Rattle.std.proofs.lemmas.List.Sums.{AllPass-from_list_all}
 use Rattle.byteorder.specs.Numbers.{big_number-reads_back}
-use Rattle.model_base.proofs.ShapeLimits.{whole_sectors}
+use Rattle.model_base.proofs.ShapeLimits.{whole_sectors, is_within_limits_true, slots_within}
 use Rattle.model_base.specs.declared.shape.Shape.{Shape}
 use Rattle.model_base.specs.declared.limits.TheConstants.{START_LSN}
 use Rattle.model_base.specs.{field, is_within_limits, IsWithinLimits, padded_to}
 use Rattle.model_log.specs.Block.{with_checksum, fits_checksum}
-use Rattle.model_log.specs.Head.{format_of, has_sizes_of, shape_of, read_head}
+use Rattle.model_log.specs.Device.{format_of, has_sizes_of, shape_of, read_head}
 use Rattle.model_log.specs.HeadText.{creator, format_number, head_text}
 use Rattle.model_log.specs.declared.head.Format.{Format}
 use Rattle.model_log.specs.declared.head.Format.TheVariants.{One, Two, Three}
@@ -19,7 +19,6 @@ use Rattle.model_log.specs.declared.head.Head.{Head}
 use Rattle.model_log.specs.declared.head.Head.TheVariants.{Good, OtherFormat, Unformatted}
 use Rattle.model_log.proofs.Checksums.{IsByte, bytes-bytes_high_first}
 use Rattle.model_log.proofs.Heads.{head_fields, head_text-from}
-use Rattle.model_base.proofs.ShapeLimits.{is_within_limits_true, slots_within}
 use Rattle.model_log.proofs.Sealed.{field-padded, length-padded, bytes-padded, fits_checksum-sealed}
 
 length-head_fields : (format : Format) (shape : Shape) → length (head_fields format shape) ≡ 68

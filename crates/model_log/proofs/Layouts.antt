@@ -2,7 +2,8 @@
 use Rattle.std.proofs.Common.{◌≤◌, arith}
 use Rattle.model_base.specs.declared.shape.Shape.{Shape}
 use Rattle.model_base.specs.declared.limits.TheConstants.{MAX_LOG_BLOCKS, MIN_LOG_BLOCKS}
-use Rattle.model_log.specs.Device.{IsLayout, layout_of}
+use Rattle.model_log.specs.Device.{layout_of}
+use Rattle.model_log.specs.Ring.{IsLayout}
 use Rattle.model_log.specs.declared.head.Format.{Format}
 use Rattle.model_log.specs.declared.head.Format.TheVariants.{One, Two, Three}
 use Rattle.model_log.specs.declared.layout.Layout.{Layout}

@@ -3,9 +3,10 @@ use Rattle.std.proofs.Common.{◌≡◌, ◌≤◌, ◌<◌, ◌+◌, ◌-◌, �
 use Rattle.std.proofs.lemmas.Bool.{cases_lt}
 use Rattle.std.proofs.lemmas.Nat.{div-add-mod', mod-mul-add, mod_below, mul-le}
 use Rattle.model_base.specs.declared.limits.TheConstants.{START_LSN}
-use Rattle.model_log.specs.Device.{IsInRound, place_in, ring_start, round_of, sector_of}
+use Rattle.model_log.specs.Device.{place_in, ring_start, round_of}
+use Rattle.model_log.specs.Ring.{IsInRound, sector_of}
 use Rattle.model_log.specs.declared.layout.Layout.{Layout}
-use Rattle.model_log.specs.Lsn.{block_of}
+use Rattle.model_log.specs.Block.{block_of}
 
 -- a log has blocks
 pub record HasBlocks (layout : Layout) : Type 0 where

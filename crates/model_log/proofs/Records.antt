@@ -4,7 +4,7 @@ use Rattle.std.specs.Int.{bytes_high_first}
 use Rattle.std.proofs.lemmas.List.{length-replicate, take_at, drop_at}
 use Rattle.std.proofs.lemmas.List.Elements.{All-replicate}
 use Rattle.model_base.specs.{spelling32, spelling64, Spells32}
-use Rattle.model_log.specs.Record.{IsWidth, IsByte, value_text}
+use Rattle.model_log.specs.Group.{IsWidth, IsByte, value_text}
 use Rattle.model_log.specs.Bodies.{IsShort, IsLength, IsBody, IsValue, IsString, IsPlace, IsSpot, IsAfterType}
 use Rattle.model_log.specs.declared.place.Place.{Place}
 use Rattle.model_log.specs.declared.place.Spot.{Spot}

@@ -3,9 +3,9 @@ use Rattle.std.proofs.Common.{◌≡◌, ◌≤◌, ◌+◌, ℕ, inl, inr, List
 use Rattle.std.specs.List.{AllByRecursion}
 use Rattle.std.proofs.lemmas.Bool.Decides.{nat_tests}
 use Rattle.model_log.specs.declared.group.Whole.{Whole}
-use Rattle.model_log.specs.Group.{group_length, group_text, groups_of, stream_of}
-use Rattle.model_log.specs.Lsn.{lsn_of, sn_of, IsDataLsn, IsAtDataStart}
-use Rattle.model_log.specs.Run.{Span, IsTiled, IsBoundary, last_span_end, span_of, spans_of, HasItsLength, IsRunOf}
+use Rattle.model_log.specs.Group.{group_length, group_text, groups_of, stream_of, Span, IsTiled, IsBoundary, last_span_end, span_of, spans_of, HasItsLength, IsRunOf}
+use Rattle.model_log.specs.Block.{lsn_of, sn_of, IsAtDataStart}
+use Rattle.model_log.specs.Boundary.{IsDataLsn}
 
 -- ANY PIECES
 

@@ -3,8 +3,7 @@ use Rattle.std.proofs.Common.{◌≡◌, ℕ, ◌+◌, ◌<◌, ◌^◌, List, [
 use Rattle.std.specs.List.{flat_map, AllByRecursion}
 use Rattle.std.proofs.lemmas.List.{append-nil}
 use Rattle.model_base.specs.{spelling32, spelling64}
-use Rattle.model_log.specs.Record.{type_of, after_type, record_text, single_text, IsWidth, HasText}
-use Rattle.model_log.specs.Group.{group_text, IsGroup}
+use Rattle.model_log.specs.Group.{type_of, after_type, record_text, single_text, IsWidth, HasText, group_text, IsGroup}
 use Rattle.model_log.specs.Bodies.{IsAfterType, IsRecord}
 use Rattle.model_log.specs.declared.rec.Rec.{Rec}
 use Rattle.model_log.specs.declared.rec.Rec.TheVariants.{Num, Text, Init}

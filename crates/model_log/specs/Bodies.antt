@@ -5,7 +5,7 @@ use Rattle.model_base.specs.{spelling32}
 use Rattle.model_log.specs.declared.place.Place.{Place}
 use Rattle.model_log.specs.declared.place.Spot.{Spot}
 use Rattle.model_log.specs.declared.rec.Rec.{Rec}
-use Rattle.model_log.specs.Record.{type_of, after_type, value_text, HasText, HasSpelling, IsByte}
+use Rattle.model_log.specs.Group.{type_of, after_type, value_text, HasText, HasSpelling, IsByte}
 
 -- a number in two bytes
 pub record IsShort (text : List ℕ) (number : ℕ) : Type 0 where

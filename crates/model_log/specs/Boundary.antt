@@ -1,13 +1,11 @@
 -- The stream of a run cut into log blocks. The run starts at the lsn s, at the first data byte of a block; its stream is
 -- the bytes of its pieces, of which spans tell where each starts and ends.
-use Rattle.std.specs.Prelude.{ℕ, ◌≡◌, ◌≤◌, ◌<◌, ◌+◌, ◌-◌, ◌*◌, ◌/◌, ◌%◌, ◌^◌, ◌==◌, ◌&&◌, min, nat_lt, nat_le, if◌then◌else◌, Bool, List, [], ◌∷◌, ◌++◌, length, take, drop, get_or, Option, Some, None}
+use Rattle.std.specs.Prelude.{ℕ, ◌≡◌, ◌≤◌, ◌<◌, ◌+◌, ◌-◌, ◌*◌, ◌%◌, ◌^◌, ◌==◌, ◌&&◌, min, nat_lt, if◌then◌else◌, Bool, List, [], ◌∷◌, length, take, drop, get_or, Option, Some, None}
 use Rattle.model_base.specs.declared.limits.TheConstants.{BLOCK_SIZE}
-use Rattle.model_log.specs.Group.{groups_of, stream_of}
+use Rattle.model_log.specs.Group.{groups_of, stream_of, Span, IsBoundary, spans_of}
 use Rattle.model_log.specs.declared.group.Whole.{Whole}
-use Rattle.model_log.specs.Lsn.{sn_of, block_of}
-use Rattle.model_log.specs.Run.{Span, IsBoundary, spans_of}
-use Rattle.model_log.specs.Block.{block_text}
-use Rattle.model_log.specs.declared.layout.TheConstants.{BLOCK_HEADER, BLOCK_DATA}
+use Rattle.model_log.specs.Block.{sn_of, block_of, block_text, blocks_between}
+use Rattle.model_log.specs.declared.layout.TheConstants.{BLOCK_HEADER, BLOCK_DATA_END}
 
 -- the stream's bytes from the lsn low on and below the lsn high; its first byte has the lsn s
 unfoldable pub stream_between : ℕ → List ℕ → ℕ → ℕ → List ℕ
@@ -16,10 +14,6 @@ stream_between s stream low high = take (sn_of high - sn_of low) (drop (sn_of lo
 -- the bytes that the block at b holds of those below m: all of them, or those up to the block's end
 unfoldable pub content_at : ℕ → List ℕ → ℕ → ℕ → List ℕ
 content_at s stream m b = stream_between s stream b (min m (b + BLOCK_SIZE))
-
--- the data length of the block at b: 512 where m is at or above the first data byte of the next block
-abbrev pub length_at : ℕ → ℕ → ℕ
-length_at m b = if nat_le (b + BLOCK_SIZE + BLOCK_HEADER) m then BLOCK_SIZE else m - b
 
 -- the piece ends in the block at b and starts in an earlier one
 abbrev pub ends_in : ℕ → Span → Bool
@@ -49,17 +43,6 @@ pub record IsBlockBelow (s : ℕ) (stream : List ℕ) (spans : List Span) (m b :
 abbrev pub IsBoundaryBlock : ℕ → List Whole → ℕ → ℕ → List ℕ → Type 0
 IsBoundaryBlock s wholes m b bytes = IsBlockBelow s (stream_of (groups_of wholes)) (spans_of wholes) m b bytes
 
--- how many blocks, from that of the lsn low on, hold a byte below the lsn high
-abbrev pub blocks_between : ℕ → ℕ → ℕ
-blocks_between low high = (sn_of high - sn_of (block_of low) + (BLOCK_DATA - 1)) / BLOCK_DATA
-
--- The blocks of a stream from a data start on, with a first offset for each block, of which there are as many as the
--- stream fills: the form in which a writer makes them.
-abbrev pub framed : List ℕ → ℕ → List ℕ → ℕ → List ℕ
-framed stream from [] ckpt = []
-framed stream from (first ∷ firsts) ckpt =
-    block_text from (take BLOCK_DATA stream) first ckpt ++ framed (drop BLOCK_DATA stream) (from + BLOCK_SIZE) firsts ckpt
-
 -- What a writer hands over, from the block at `from` on: the run's bytes below one of its boundaries, and the first
 -- offset of each block that holds one of them.
 pub record IsGivenTo (s : ℕ) (wholes : List Whole) (from mark : ℕ) (bytes firsts : List ℕ) : Type 0 where
@@ -67,3 +50,7 @@ pub record IsGivenTo (s : ℕ) (wholes : List Whole) (from mark : ℕ) (bytes fi
   pub bytes_are : bytes ≡ stream_between s (stream_of (groups_of wholes)) from mark
   pub count : length firsts ≡ blocks_between from mark
   pub firsts_are : (i : ℕ) → i < length firsts → get_or firsts i 0 ≡ first_at s (spans_of wholes) (from + BLOCK_SIZE * i)
+
+-- the lsn is the place of a byte of a group
+abbrev pub IsDataLsn : ℕ → Type 0
+IsDataLsn lsn = (BLOCK_HEADER ≤ lsn % BLOCK_SIZE) × (lsn % BLOCK_SIZE < BLOCK_DATA_END)

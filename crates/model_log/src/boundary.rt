@@ -2,9 +2,8 @@
 ghost use Rattle.std.specs.Prelude.{◌≡◌, ◌≤◌, ◌<◌, ◌+◌, ◌-◌, ◌*◌, ◌%◌, ◌^◌, ℕ, List, length, take, drop};
 ghost use Rattle.model_base.specs.declared.limits.TheConstants.{BLOCK_SIZE};
 ghost use Rattle.model_log.specs.declared.group.Whole.{Whole};
-ghost use Rattle.model_log.specs.Lsn.{sn_of, block_of, IsAtDataStart, IsDataLsn};
-ghost use Rattle.model_log.specs.Block.{length_of};
-ghost use Rattle.model_log.specs.Boundary.{content_at, length_at, framed, IsBoundaryBlock, IsGivenTo};
+ghost use Rattle.model_log.specs.Block.{sn_of, block_of, IsAtDataStart, length_of, length_at, framed};
+ghost use Rattle.model_log.specs.Boundary.{IsDataLsn, content_at, IsBoundaryBlock, IsGivenTo};
 ghost use Rattle.model_log.specs.declared.layout.TheConstants.{BLOCK_HEADER};
 
 /// The data length of the block at b for the boundary m is that of the bytes it holds, where m is the place of a

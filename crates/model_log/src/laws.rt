@@ -3,13 +3,12 @@ ghost use Rattle.std.specs.Prelude.{◌≡◌, ◌≤◌, ◌<◌, ◌%◌, ◌^
 ghost use Rattle.model_base.specs.declared.shape.Shape.{Shape};
 ghost use Rattle.model_base.specs.declared.limits.TheConstants.{BLOCK_SIZE, START_LSN, LSN_LIMIT};
 ghost use Rattle.model_base.specs.{IsWithinLimits};
-ghost use Rattle.model_log.specs.Device.{IsLayout};
+ghost use Rattle.model_log.specs.Ring.{IsLayout};
 ghost use Rattle.model_log.specs.declared.head.Format.{Format};
 ghost use Rattle.model_log.specs.declared.layout.Layout.{Layout};
-ghost use Rattle.model_log.specs.Lsn.{lsn_of, sn_of, IsDataLsn};
-ghost use Rattle.model_log.specs.Block.{length_of, block_text, is_first, read_block, data_of};
-ghost use Rattle.model_log.specs.Checkpoint.{place_of, checkpoint_text, read_checkpoint};
-ghost use Rattle.model_log.specs.Head.{has_sizes_of, read_head};
+ghost use Rattle.model_log.specs.Block.{lsn_of, sn_of, length_of, block_text, is_first, read_block, data_of};
+ghost use Rattle.model_log.specs.Boundary.{IsDataLsn};
+ghost use Rattle.model_log.specs.Device.{place_of, checkpoint_text, read_checkpoint, has_sizes_of, read_head};
 ghost use Rattle.model_log.specs.HeadText.{head_text};
 ghost use Rattle.model_log.specs.declared.head.Head.TheVariants.{Good};
 ghost use Rattle.model_log.specs.declared.layout.TheConstants.{BLOCK_DATA};

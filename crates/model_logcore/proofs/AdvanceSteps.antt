@@ -6,16 +6,13 @@ use Rattle.model_core.proofs.Groups.{bound_end, tiles_at}
 use Rattle.model_core.proofs.Lanes.{word_grows}
 use Rattle.model_core.proofs.Lsns.{link_same, lsn_le}
 use Rattle.model_core.proofs.Tails.{held_in, tail_in}
-use Rattle.model_core.specs.{Actor, Advance, end_of, floor, is_held, IsBound, IsSized, layout_of, lsn, SharedWords, tail_of, tail_word}
-use Rattle.model_core.specs.LogSide.{LogSide}
-use Rattle.model_core.specs.Setup.{Setup}
+use Rattle.model_core.specs.{Actor, Advance, end_of, floor, is_held, IsBound, IsSized, layout_of, lsn, SharedWords, tail_of, tail_word, LogSide, Setup}
 use Rattle.model_core.specs.declared.limits.TheConstants.{LOG_BUFFER, WRITTEN_LINKS}
 use Rattle.model_logcore.proofs.Frame.{Later, unchanged}
 use Rattle.model_logcore.proofs.GroupEnds.{end_near}
 use Rattle.model_logcore.proofs.Same.{later_marks, numbers_sized, part_same, stored_else, stored_here, wlinks_sized}
 use Rattle.model_logcore.specs.LogFacts.{LogFacts, LogGhost, WrittenLink}
-use Rattle.model_logcore.specs.LogFits.{HoldsWtail}
-use Rattle.model_logcore.specs.LogHalf.{LogHalf}
+use Rattle.model_logcore.specs.LogFits.{HoldsWtail, LogHalf}
 
 -- what a step of an advance leaves of the words and the log, and to the actors at other seats
 pub record Moves (D : LogSide) (c : Setup) (m : SharedWords) (g : LogGhost) (p : D.Part) (seat : ℕ) (m' : SharedWords) (g' : LogGhost) : Type 0 where

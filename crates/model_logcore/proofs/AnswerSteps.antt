@@ -5,16 +5,13 @@ use lib.ListN.{get_elem?}
 use mathlib.Core.Option.{some}
 use native.Mathlib.Decide.{ℕ_discrete}
 use Rattle.model_core.proofs.Groups.{changed, changed_else, changed_here}
-use Rattle.model_core.specs.{Actor, answered, end_of, Entry, entry, group_end, Line, line, line_at, LoadedMarks, lsn, mode, SharedWords, UserState}
-use Rattle.model_core.specs.LogSide.{LogSide}
-use Rattle.model_core.specs.Setup.{Setup}
+use Rattle.model_core.specs.{Actor, answered, end_of, Entry, entry, group_end, Line, line, line_at, LoadedMarks, lsn, mode, SharedWords, UserState, LogSide, Setup}
 use Rattle.model_logcore.proofs.UserGroups.{rank_same}
 use Rattle.model_logcore.specs.LogFacts.{LogGhost, LogFacts, count_of}
-use Rattle.model_logcore.specs.LogFits.{AreBelow, UserAt, UserFits}
-use Rattle.model_logcore.specs.LogHalf.{LogHalf}
+use Rattle.model_logcore.specs.LogFits.{AreBelow, UserAt, UserFits, LogHalf}
 use Rattle.model_logcore.specs.LogLaws.{LogLaws}
 use Rattle.model_core.specs.declared.steps.UserStep.TheVariants as user_step
-use Rattle.model_core.specs.Actors as actor
+use Rattle.model_core.specs.States as actor
 
 module _ (D : LogSide) (L : LogLaws D) (c : Setup) (m : SharedWords) (g : LogGhost) (p : D.Part) (actors : List Actor) (seat : ℕ) (u : UserState) (before : LogHalf D c m g p actors) (at : get_elem? actors seat ≡ some (actor.User u)) where
   mine : UserFits D c m g p seat u

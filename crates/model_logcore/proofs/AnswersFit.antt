@@ -11,10 +11,8 @@ use Rattle.model_core.proofs.Groups.{first_base, first_from, tiles_at}
 use Rattle.model_core.proofs.Lanes.{part_word}
 use Rattle.model_core.proofs.Lsns.{floor_lsn, lsn_below, lsn_block, lsn_le, sn_below}
 use Rattle.model_core.proofs.Tails.{tail_in}
-use Rattle.model_core.specs.{Actor, Advance, advance_op, answer_limit, checkpointer_op, cleaner_op, closer_op, end_of, first_of, floor, flusher_op, group_bytes, left_in_word, Listed, lsn, next, old_of, read_place, shared_answer, SharedWords, tail_of, tail_word, user_fits, user_op, UserState, writer_fits, writer_op, WriterState}
-use Rattle.model_core.specs.Fitting.{Fitting, advance_fits}
-use Rattle.model_core.specs.LogSide.{LogSide}
-use Rattle.model_core.specs.Setup.{Setup}
+use Rattle.model_core.specs.{Actor, Advance, advance_op, answer_limit, checkpointer_op, cleaner_op, closer_op, end_of, first_of, floor, flusher_op, group_bytes, left_in_word, Listed, lsn, next, old_of, read_place, shared_answer, SharedWords, tail_of, tail_word, user_fits, user_op, UserState, writer_fits, writer_op, WriterState, advance_fits, LogSide, Setup}
+use Rattle.model_core.specs.Fitting.{Fitting}
 use Rattle.model_core.specs.declared.ops.Op.{Op}
 use Rattle.model_core.specs.declared.steps.AdvanceStep.{AdvanceStep}
 use Rattle.model_core.specs.declared.steps.UserStep.{UserStep}
@@ -26,15 +24,14 @@ use Rattle.model_logcore.proofs.WriterCells.{block_is, first_true}
 use Rattle.model_logcore.proofs.AdvanceSteps.{link_here}
 use Rattle.model_logcore.proofs.WriterSteps.{tail_near}
 use Rattle.model_logcore.specs.LogFacts.{LogGhost, sum_over_actors}
-use Rattle.model_logcore.specs.LogFits.{AdvanceAt, UserAt, UserFits, WriterAt, WriterFits}
-use Rattle.model_logcore.specs.LogHalf.{LogHalf, left_to_reserve, lengths}
+use Rattle.model_logcore.specs.LogFits.{AdvanceAt, UserAt, UserFits, WriterAt, WriterFits, LogHalf, left_to_reserve, lengths}
 use Rattle.model_core.specs.declared.words.Word.TheVariants as word
 use Rattle.model_core.specs.declared.ops.Op.TheVariants as op
 use Rattle.model_core.specs.declared.steps.AdvanceStep.TheVariants as advance_step
 use Rattle.model_core.specs.declared.words.LinkBuffer.TheVariants as link_buffer
 use Rattle.model_core.specs.declared.steps.UserStep.TheVariants as user_step
 use Rattle.model_core.specs.declared.steps.WriterStep.TheVariants as writer_step
-use Rattle.model_core.specs.Actors as actor
+use Rattle.model_core.specs.States as actor
 use mathlib.Core.Option as maybe
 
 sum_at : {V : Type 0} (f : V → ℕ) (vs : List V) (i : ℕ) (v : V) → get_elem? vs i ≡ maybe.some v → f v ≤ sum_over_actors f vs

@@ -5,21 +5,18 @@ use lib.ListN.{get_elem?}
 use Rattle.model_base.specs.declared.limits.TheConstants.{LSN_LIMIT}
 use Rattle.model_core.proofs.Lists.{set_at}
 use Rattle.model_core.proofs.Lsns.{lsn_le, lsn_below}
-use Rattle.model_core.specs.{Actor, ceiling, entries, Entry, floor, holds, lsn, SharedWords, writer_holds, writer_took, WriterState}
-use Rattle.model_core.specs.LogSide.{LogSide}
-use Rattle.model_core.specs.Setup.{Setup}
+use Rattle.model_core.specs.{Actor, ceiling, entries, Entry, floor, holds, lsn, SharedWords, writer_holds, writer_took, WriterState, LogSide, Setup}
 use Rattle.model_logcore.proofs.Frame.{unchanged, Kept, budget_same, counted_same, moved, others_later, moved_on}
 use Rattle.model_logcore.proofs.Same.{facts_same, later_marks, numbers_sized, part_kept, part_same, still_same, writer_same}
 use Rattle.model_logcore.proofs.WriterCells.{lends}
 use Rattle.model_logcore.proofs.WriterSteps.{tail_near, wsteps}
 use Rattle.model_logcore.specs.LogFacts.{LogGhost, LogFacts, LogPartFacts, sum_over_actors}
-use Rattle.model_logcore.specs.LogFits.{LogFits, WriterAt, WriterFits}
-use Rattle.model_logcore.specs.LogHalf.{LogHalf, left_to_reserve}
+use Rattle.model_logcore.specs.LogFits.{LogFits, WriterAt, WriterFits, LogHalf, left_to_reserve}
 use Rattle.model_logcore.specs.LogLaws.{AfterWrite, CanWrite, LogLaws}
 use mathlib.Core.Option as maybe
 use Rattle.model_core.specs.declared.ops.Answer.TheVariants as answer
 use Rattle.model_core.specs.declared.steps.WriterStep.TheVariants as writer_step
-use Rattle.model_core.specs.Actors as actor
+use Rattle.model_core.specs.States as actor
 
 module _ (D : LogSide) (c : Setup) (m : SharedWords) (g : LogGhost) (p : D.Part) where
   -- the turn word and its holder are no matter of an actor's own facts

@@ -1,13 +1,9 @@
 -- An actor that fails: its state tells that it has met a failure, and its code that the log part has a cause.
 use Rattle.std.proofs.Common.{Bool, cond, false, inr, refl, subst, true, ℕ, ◌==◌, ◌≡◌}
-use Rattle.model_core.proofs.Endings.{checkpointer_end, cleaner_end, closer_end, failed_last, flusher_end, user_failed, writer_end}
-use Rattle.model_core.proofs.Endings.{reader_end}
+use Rattle.model_core.proofs.Endings.{checkpointer_end, cleaner_end, closer_end, failed_last, flusher_end, user_failed, writer_end, reader_end}
 use Rattle.model_core.proofs.FailedCalls.{HasStored}
-use Rattle.model_core.specs.{Actor, checkpointer_ending, checkpointer_took, checkpointer_waits, cleaner_ending, cleaner_took, cleaner_waits, closer_ending, closer_took, closer_waits, flusher_ending, flusher_took, flusher_waits, heard, old_of, SharedWords, step_of, took, user_ending, user_took, user_waits, writer_ending, writer_took, writer_waits}
-use Rattle.model_core.specs.{reader_ending, reader_took, reader_waits}
-use Rattle.model_core.specs.Actors as actor
-use Rattle.model_core.specs.LogSide.{LogSide}
-use Rattle.model_core.specs.Setup.{Setup}
+use Rattle.model_core.specs.{Actor, checkpointer_ending, checkpointer_took, checkpointer_waits, cleaner_ending, cleaner_took, cleaner_waits, closer_ending, closer_took, closer_waits, flusher_ending, flusher_took, flusher_waits, heard, old_of, SharedWords, step_of, took, user_ending, user_took, user_waits, writer_ending, writer_took, writer_waits, reader_ending, reader_took, reader_waits, LogSide, Setup}
+use Rattle.model_core.specs.States as actor
 use Rattle.model_core.specs.declared.ops.Answer.{Answer}
 use Rattle.model_core.specs.declared.ops.Step.{Step}
 use Rattle.model_core.specs.declared.ops.Step.TheVariants as step
@@ -18,8 +14,7 @@ use Rattle.model_core.specs.declared.steps.FlusherStep.TheVariants as flusher_st
 use Rattle.model_core.specs.declared.steps.ReaderStep.TheVariants as reader_step
 use Rattle.model_core.specs.declared.steps.UserStep.TheVariants as user_step
 use Rattle.model_core.specs.declared.steps.WriterStep.TheVariants as writer_step
-use Rattle.model_logcore.specs.{CheckpointerAt, FlusherAt, LogGhost, WriterAt}
-use Rattle.model_logcore.specs.{ReaderAt}
+use Rattle.model_logcore.specs.{CheckpointerAt, FlusherAt, LogGhost, WriterAt, ReaderAt}
 use Rattle.model_logcore.specs.LogFits.{LogFits}
 use Rattle.model_logcore.specs.Watermarks.{HasMetFailure}
 

@@ -2,20 +2,17 @@
 use Rattle.std.proofs.Common.{Bool, List, ap, arith, cond, eqb, false, refl, set, sym, true, ℕ, ◌<◌, ◌∙◌, ◌≡◌, ◌≢◌, ◌≤◌}
 use Rattle.std.proofs.lemmas.Bool.{eqb-false}
 use lib.ListN.{get_elem?}
-use Rattle.model_core.specs.{Actor, Entry, flusher_holds, flusher_took, FlusherState, holds, IsSized, layout_of, SharedWords}
-use Rattle.model_core.specs.LogSide.{LogSide}
-use Rattle.model_core.specs.Setup.{Setup}
+use Rattle.model_core.specs.{Actor, Entry, flusher_holds, flusher_took, FlusherState, holds, IsSized, layout_of, SharedWords, LogSide, Setup}
 use Rattle.model_logcore.proofs.DeviceSteps.{stays}
 use Rattle.model_logcore.proofs.Frame.{unchanged, Kept, Later, Still, others_flusher, moved_on}
 use Rattle.model_logcore.proofs.Same.{facts_same, later_marks, numbers_sized, part_kept, part_same, still_same}
 use Rattle.model_logcore.specs.LogFacts.{LogGhost, LogFacts, LogPartFacts}
-use Rattle.model_logcore.specs.LogFits.{FlusherAt, FlusherFits}
-use Rattle.model_logcore.specs.LogHalf.{LogHalf}
+use Rattle.model_logcore.specs.LogFits.{FlusherAt, FlusherFits, LogHalf}
 use Rattle.model_logcore.specs.LogLaws.{AfterSync, LogLaws}
 use mathlib.Core.Option as maybe
 use Rattle.model_core.specs.declared.ops.Answer.TheVariants as answer
 use Rattle.model_core.specs.declared.steps.FlusherStep.TheVariants as flusher_step
-use Rattle.model_core.specs.Actors as actor
+use Rattle.model_core.specs.States as actor
 
 module _ (D : LogSide) (L : LogLaws D) (c : Setup) (m : SharedWords) (g : LogGhost) (p : D.Part) (actors : List Actor) (seat : ℕ) (f : FlusherState) (before : LogHalf D c m g p actors) (at : get_elem? actors seat ≡ maybe.some (actor.Flusher f)) where
   hers : FlusherFits D c m g p seat f

@@ -1,9 +1,8 @@
 -- What stays of the invariant when one actor moves.
 use Rattle.model_core.specs.declared.steps.ReaderStep.{ReaderStep}
 use Rattle.model_core.specs.declared.steps.ReaderStep.TheVariants as reader_step
-use Rattle.model_core.specs.States.{ReaderState}
-use Rattle.model_core.specs.Holding.{reader_holds}
-use Rattle.model_logcore.specs.LogFits.{ReaderAt, ReaderFits}
+use Rattle.model_core.specs.{ReaderState, reader_holds, Actor, Advance, byte_at, ChecksWithoutTail, checkpointer_holds, CheckpointerState, CleanerState, end_of, entries, Entry, first_of, flusher_holds, FlusherState, group_bytes, HasHolder, holds, IsSized, layout_of, left_in_word, LoadedMarks, lsn, read_place, SharedWords, sum_of, Tiles, UserState, word_end, writer_holds, WriterState, LogSide, Setup}
+use Rattle.model_logcore.specs.LogFits.{ReaderAt, ReaderFits, AdvanceAt, AreBelow, CheckpointerAt, CheckpointerFits, CleanerTold, LogFits, FlusherAt, FlusherFits, Hand, LacksFirst, HasAllCopied, HasLinked, HasStoppedAt, HoldsWtail, UserAt, UserFits, WriterAt, WriterFits, Counted, LogHalf, HasTaker, left_to_reserve}
 use Rattle.std.proofs.Common.{Bool, List, [], ap, arith, length, refl, set, subst, suc, sym, true, zero, ℕ, ⊎_elim, ◌%◌, ◌*◌, ◌+◌, ◌/◌, ◌<◌, ◌∙◌, ◌∷◌, ◌≡◌, ◌≢◌, ◌≤◌, inl, inr}
 use Rattle.std.specs.Prelude.{slice_index}
 use lib.ListN.{get_elem?}
@@ -14,9 +13,6 @@ use Rattle.model_log.specs.declared.layout.TheConstants.{BLOCK_DATA}
 use Rattle.model_core.proofs.Lists.{at_set, set_at, set_else}
 use Rattle.model_core.proofs.Groups.{tiles_at}
 use Rattle.model_core.proofs.Lsns.{floor_grows, lsn_below}
-use Rattle.model_core.specs.{Actor, Advance, byte_at, ChecksWithoutTail, checkpointer_holds, CheckpointerState, CleanerState, end_of, entries, Entry, first_of, flusher_holds, FlusherState, group_bytes, HasHolder, holds, IsSized, layout_of, left_in_word, LoadedMarks, lsn, read_place, SharedWords, sum_of, Tiles, UserState, word_end, writer_holds, WriterState}
-use Rattle.model_core.specs.LogSide.{LogSide}
-use Rattle.model_core.specs.Setup.{Setup}
 use Rattle.model_core.specs.declared.steps.AdvanceStep.{AdvanceStep}
 use Rattle.model_core.specs.declared.steps.UserStep.{UserStep}
 use Rattle.model_core.specs.declared.steps.CheckpointerStep.{CheckpointerStep}
@@ -24,15 +20,13 @@ use Rattle.model_core.specs.declared.steps.WriterStep.{WriterStep}
 use Rattle.model_core.specs.declared.steps.FlusherStep.{FlusherStep}
 use Rattle.model_core.specs.declared.limits.TheConstants.{WRITTEN_LINKS}
 use Rattle.model_logcore.specs.LogFacts.{LogGhost, LogFacts, Place, count_of, sum_over_actors}
-use Rattle.model_logcore.specs.LogFits.{AdvanceAt, AreBelow, CheckpointerAt, CheckpointerFits, CleanerTold, LogFits, FlusherAt, FlusherFits, Hand, LacksFirst, HasAllCopied, HasLinked, HasStoppedAt, HoldsWtail, UserAt, UserFits, WriterAt, WriterFits}
-use Rattle.model_logcore.specs.LogHalf.{Counted, LogHalf, HasTaker, left_to_reserve}
 use Rattle.model_core.specs.declared.steps.AdvanceStep.TheVariants as advance_step
 use Rattle.model_core.specs.declared.steps.UserStep.TheVariants as user_step
 use Rattle.model_core.specs.declared.words.LinkBuffer.TheVariants as link_buffer
 use Rattle.model_core.specs.declared.steps.WriterStep.TheVariants as writer_step
 use Rattle.model_core.specs.declared.steps.FlusherStep.TheVariants as flusher_step
 use Rattle.model_core.specs.declared.steps.CheckpointerStep.TheVariants as checkpointer_step
-use Rattle.model_core.specs.Actors as actor
+use Rattle.model_core.specs.States as actor
 
 -- the total after a change of one
 pub total_set : {V : Type 0} (f : V → ℕ) (vs : List V) (k : ℕ) (v w : V) → get_elem? vs k ≡ some v → sum_over_actors f (set vs k w) + f v ≡ sum_over_actors f vs + f w

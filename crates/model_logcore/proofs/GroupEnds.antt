@@ -4,9 +4,7 @@ use native.Mathlib.Decide.{dec_le}
 use Rattle.model_core.proofs.Groups.{tiles_at}
 use Rattle.model_core.proofs.Lanes.{word_grows}
 use Rattle.model_core.proofs.Lsns.{block_below, lsn_block, lsn_offset}
-use Rattle.model_core.specs.{Entry, floor, group_bytes, group_end, lsn, SharedWords, UserState}
-use Rattle.model_core.specs.LogSide.{LogSide}
-use Rattle.model_core.specs.Setup.{Setup}
+use Rattle.model_core.specs.{Entry, floor, group_bytes, group_end, lsn, SharedWords, UserState, LogSide, Setup}
 use Rattle.model_core.specs.declared.limits.TheConstants.{LOG_BUFFER}
 use Rattle.model_log.specs.declared.layout.TheConstants.{BLOCK_DATA}
 use Rattle.model_logcore.specs.LogFacts.{FirstOffsets, LogFacts, LogGhost}

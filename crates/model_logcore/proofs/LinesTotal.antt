@@ -2,13 +2,11 @@
 use Rattle.std.proofs.Common.{List, [], arith, drop, length, refl, suc, zero, ap, ℕ, ◌+◌, ◌∷◌, ◌≡◌, ◌≤◌}
 use Rattle.std.proofs.lemmas.List.{get_or_past}
 use native.Mathlib.Decide.{dec_le}
-use Rattle.model_core.specs.{Actor, entries, entries_from, Entry, Line, line_at, SharedWords, sum_of, Tiles}
-use Rattle.model_core.specs.LogSide.{LogSide}
-use Rattle.model_core.specs.Setup.{Setup}
+use Rattle.model_core.specs.{Actor, entries, entries_from, Entry, Line, line_at, SharedWords, sum_of, Tiles, LogSide, Setup}
 use Rattle.model_logcore.proofs.UserGroups.{lengths_step}
 use Rattle.model_logcore.specs.LogFacts.{LogGhost, sum_over_actors}
-use Rattle.model_logcore.specs.LogHalf.{left_to_reserve, lengths, LogHalf}
-use Rattle.model_core.specs.Actors as actor
+use Rattle.model_logcore.specs.LogFits.{left_to_reserve, lengths, LogHalf}
+use Rattle.model_core.specs.States as actor
 
 -- all bytes of an actor's lines
 abbrev pub all_bytes : Actor → ℕ

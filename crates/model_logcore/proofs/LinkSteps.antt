@@ -7,9 +7,7 @@ use mathlib.Core.Option.{some}
 use native.Mathlib.Decide.{dec_le, ℕ_discrete}
 use Rattle.model_core.proofs.Groups.{changed, changed_else, changed_here, ranged, ranged_in, ranged_out, tiles_at}
 use Rattle.model_core.proofs.Lsns.{link_same, lsn_le, lsn_less, lsn_wide}
-use Rattle.model_core.specs.{Actor, answered, changes, end_of, Entry, entry, group_bytes, group_end, line, lsn, mode, SharedWords, user_took, UserState}
-use Rattle.model_core.specs.LogSide.{LogSide}
-use Rattle.model_core.specs.Setup.{Setup}
+use Rattle.model_core.specs.{Actor, answered, changes, end_of, Entry, entry, group_bytes, group_end, line, lsn, mode, SharedWords, user_took, UserState, LogSide, Setup}
 use Rattle.model_core.specs.declared.steps.UserStep.{UserStep}
 use Rattle.model_core.specs.declared.limits.TheConstants.{ADVANCE_PLACES, WRITTEN_LINKS}
 use Rattle.model_log.specs.declared.layout.TheConstants.{BLOCK_DATA}
@@ -19,11 +17,10 @@ use Rattle.model_logcore.proofs.Frame.{StillHeld, Kept, Later}
 use Rattle.model_logcore.proofs.RingSteps.{above_tail, commits_states, hand_lies, refit, steps, still_words}
 use Rattle.model_logcore.proofs.Same.{wlinks_sized, stored_here, stored_else}
 use Rattle.model_logcore.specs.LogFacts.{LogGhost, LogFacts, WrittenLink, Place, count_of}
-use Rattle.model_logcore.specs.LogFits.{UserAt, UserFits}
-use Rattle.model_logcore.specs.LogHalf.{LogHalf, left_to_reserve}
+use Rattle.model_logcore.specs.LogFits.{UserAt, UserFits, LogHalf, left_to_reserve}
 use Rattle.model_logcore.specs.LogLaws.{LogLaws}
 use Rattle.model_core.specs.declared.steps.UserStep.TheVariants as user_step
-use Rattle.model_core.specs.Actors as actor
+use Rattle.model_core.specs.States as actor
 
 module _ (D : LogSide) (L : LogLaws D) (c : Setup) (m : SharedWords) (g : LogGhost) (p : D.Part) (actors : List Actor) (seat : ℕ) (u : UserState) (before : LogHalf D c m g p actors) (at : get_elem? actors seat ≡ some (actor.User u)) where
   mine : UserFits D c m g p seat u

@@ -7,9 +7,7 @@ use Rattle.model_core.proofs.Lists.{at_set, set_again}
 use Rattle.model_core.proofs.TailHolders.{holder_stays}
 use Rattle.model_core.proofs.TailsFree.{took_free}
 unfoldable use Rattle.model_core.specs.{lanes}
-use Rattle.model_core.specs.{Actor, Advance, Batch, Blocks, checked, ChecksWithoutTail, checkpointer_holds, checkpointer_op, checkpointer_took, CheckpointerState, cleaner_op, cleaner_took, CleanerState, closer_op, closer_took, CloserState, Entry, first_of_batch, floor, flusher_holds, flusher_op, flusher_took, FlusherState, heard, is_held, IsSized, layout_of, lent, Listed, log_left, LogServed, lowered, next, next_in_round, Nothing, old_of, oldest_end, own_took, page_loaded, current_page, page_words_at, PageWords, phase_log, shared_answer, shared_left, SharedWords, tail_of, tail_word, took, user_op, user_took, UserState, with_page_words, writer_holds, writer_op, writer_took, WriterState}
-use Rattle.model_core.specs.LogSide.{LogSide}
-use Rattle.model_core.specs.Setup.{Setup}
+use Rattle.model_core.specs.{Actor, Advance, Batch, Blocks, checked, ChecksWithoutTail, checkpointer_holds, checkpointer_op, checkpointer_took, CheckpointerState, cleaner_op, cleaner_took, CleanerState, closer_op, closer_took, CloserState, Entry, first_of_batch, floor, flusher_holds, flusher_op, flusher_took, FlusherState, heard, is_held, IsSized, layout_of, lent, Listed, log_left, LogServed, lowered, next, next_in_round, Nothing, old_of, oldest_end, own_took, page_loaded, current_page, page_words_at, PageWords, phase_log, shared_answer, shared_left, SharedWords, tail_of, tail_word, took, user_op, user_took, UserState, with_page_words, writer_holds, writer_op, writer_took, WriterState, LogSide, Setup, ReaderState, Room, reader_holds}
 use Rattle.model_core.specs.declared.ops.Answer.{Answer}
 use Rattle.model_core.specs.declared.ops.Op.{Op}
 use Rattle.model_core.specs.declared.steps.AdvanceStep.{AdvanceStep}
@@ -25,13 +23,10 @@ use Rattle.model_logcore.proofs.DeviceSteps.{can_write, gives, stays, takes, wri
 use Rattle.model_logcore.proofs.FlusherSteps.{flusher_checked, keeps_fault, keeps_flushed, keeps_watch, syncs_by}
 use Rattle.model_logcore.proofs.ReaderSteps.{appends_by, keeps_code, keeps_lost, keeps_place, reader_checked, reads_by, reads_on}
 use Rattle.model_core.specs.ReaderProgram.{archives, has_all, is_none, joined_texts, next_block, pending, reader_op, reader_took, to_append}
-use Rattle.model_core.specs.States.{ReaderState}
-use Rattle.model_core.specs.Lsn.{lsn}
-use Rattle.model_core.specs.Holding.{reader_holds}
-use Rattle.model_core.specs.Actors.{Room}
+use Rattle.model_core.specs.Lanes.{lsn}
 use Rattle.model_core.specs.declared.steps.ReaderStep.{ReaderStep}
 use Rattle.model_core.specs.declared.steps.ReaderStep.TheVariants as reader_step
-use Rattle.model_logcore.specs.LogFits.{ReaderAt, ReaderFits}
+use Rattle.model_logcore.specs.LogFits.{ReaderAt, ReaderFits, CleanerTold, CheckpointerAt, CheckpointerFits, WriterAt, WriterFits, FlusherAt, FlusherFits, UserAt, LogHalf}
 use Rattle.model_logcore.proofs.Same.{clinks_sized, lists_sized, numbers_sized, page_sized}
 use Rattle.model_logcore.proofs.UserSteps.{user_give, user_keeps, user_list, user_checked}
 use Rattle.model_logcore.proofs.WriterAdvances.{keeps_clear_link, keeps_free_tail, keeps_load_link, keeps_load_tail, keeps_take_tail}
@@ -40,8 +35,6 @@ use Rattle.model_logcore.proofs.WriterSteps.{staged}
 use Rattle.model_logcore.proofs.WriterStores.{keeps_store_failed, keeps_store_write}
 use Rattle.model_logcore.proofs.Frame.{Kept}
 use Rattle.model_logcore.specs.LogFacts.{LogGhost}
-use Rattle.model_logcore.specs.LogFits.{CleanerTold, CheckpointerAt, CheckpointerFits, WriterAt, WriterFits, FlusherAt, FlusherFits, UserAt}
-use Rattle.model_logcore.specs.LogHalf.{LogHalf}
 use Rattle.model_logcore.specs.LogLaws.{CanCheckpoint, LogLaws}
 use mathlib.Core.Option as maybe
 use Rattle.model_core.specs.declared.words.Word.TheVariants as word
@@ -55,7 +48,7 @@ use Rattle.model_core.specs.declared.steps.FlusherStep.TheVariants as flusher_st
 use Rattle.model_core.specs.declared.steps.CloserStep.TheVariants as closer_step
 use Rattle.model_core.specs.declared.steps.CleanerStep.TheVariants as cleaner_step
 use Rattle.model_core.specs.declared.steps.CheckpointerStep.TheVariants as checkpointer_step
-use Rattle.model_core.specs.Actors as actor
+use Rattle.model_core.specs.States as actor
 
 module _ (D : LogSide) (L : LogLaws D) (c : Setup) (m : SharedWords) (g : LogGhost) (p : D.Part) (actors : List Actor) (seat : ℕ) (before : LogHalf D c m g p actors) (code : ℕ) (q : D.Part) (ls : ℕ → List Listed) (can : (t : CheckpointerState) → get_elem? actors seat ≡ maybe.some (actor.Checkpointer t) → t.step ≡ checkpointer_step.Checkpoint → CanCheckpoint D c.blocks c.base g.log t.to p) where
   abbrev LeftTo : List Entry → Op → (Answer → Actor) → Type 0

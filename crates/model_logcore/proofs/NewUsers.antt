@@ -3,8 +3,7 @@ use Rattle.std.proofs.Common.{Bool, List, [], ap, arith, cond, eqb, eqb-true, fa
 use Rattle.std.proofs.lemmas.Bool.{eqb-false}
 use Rattle.std.specs.Prelude.{slice_index}
 use Rattle.model_base.specs.declared.limits.TheConstants.{MAX_GROUP}
-use Rattle.model_core.specs.Setup.{Setup}
-use Rattle.model_core.specs.{Line, line_at, LoadedMarks, none_loaded, UserState}
+use Rattle.model_core.specs.{Setup, Line, line_at, LoadedMarks, none_loaded, UserState}
 use Rattle.model_core.specs.declared.steps.UserStep.{UserStep}
 use Rattle.model_logcore.specs.Start.{StartUser}
 use Rattle.model_core.specs.declared.steps.UserStep.TheVariants as user_step

@@ -3,20 +3,17 @@ use Rattle.std.proofs.Common.{Bool, List, ap, arith, cond, eqb, false, refl, set
 use Rattle.std.proofs.lemmas.Bool.{eqb-false}
 use Rattle.std.specs.Prelude.{slice_set}
 use lib.ListN.{get_elem?}
-use Rattle.model_core.specs.{Actor, holds, reader_holds, reader_took, ReaderState, SharedWords}
-use Rattle.model_core.specs.LogSide.{LogSide}
-use Rattle.model_core.specs.Setup.{Setup}
+use Rattle.model_core.specs.{Actor, holds, reader_holds, reader_took, ReaderState, SharedWords, LogSide, Setup}
 use Rattle.model_logcore.proofs.DeviceSteps.{stays}
 use Rattle.model_logcore.proofs.Frame.{unchanged, Kept, others_later, moved_on}
 use Rattle.model_logcore.proofs.Same.{facts_same, later_marks, numbers_sized, part_kept, places_sized, still_same}
 use Rattle.model_logcore.specs.LogFacts.{LogGhost}
-use Rattle.model_logcore.specs.LogFits.{ReaderAt, ReaderFits}
-use Rattle.model_logcore.specs.LogHalf.{LogHalf}
+use Rattle.model_logcore.specs.LogFits.{ReaderAt, ReaderFits, LogHalf}
 use Rattle.model_logcore.specs.LogLaws.{AfterRead}
 use mathlib.Core.Option as maybe
 use Rattle.model_core.specs.declared.ops.Answer.TheVariants as answer
 use Rattle.model_core.specs.declared.steps.ReaderStep.TheVariants as reader_step
-use Rattle.model_core.specs.Actors as actor
+use Rattle.model_core.specs.States as actor
 
 module _ (D : LogSide) (c : Setup) (m : SharedWords) (g : LogGhost) (p : D.Part) (actors : List Actor) (seat : ℕ) (r : ReaderState) (before : LogHalf D c m g p actors) (at : get_elem? actors seat ≡ maybe.some (actor.Reader r)) where
   its : ReaderFits D c m g p seat r

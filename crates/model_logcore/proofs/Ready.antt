@@ -1,10 +1,7 @@
 -- Who asks for the log part doesn't have it; who gives it back or calls it has it, and the call's conditions hold.
 use Rattle.std.proofs.Common.{Bool, List, ap, cond, false, refl, true, ℕ, ◌≡◌}
 use lib.ListN.{get_elem?}
-use Rattle.model_core.specs.{Actor, Advance, advance_op, checkpointer_holds, checkpointer_op, CheckpointerState, cleaner_op, CleanerState, closer_op, CloserState, flusher_holds, flusher_op, FlusherState, next, SharedWords, user_op, UserState, writer_holds, writer_op, WriterState}
-use Rattle.model_core.specs.{reader_holds, reader_op, ReaderState}
-use Rattle.model_core.specs.LogSide.{LogSide}
-use Rattle.model_core.specs.Setup.{Setup}
+use Rattle.model_core.specs.{Actor, Advance, advance_op, checkpointer_holds, checkpointer_op, CheckpointerState, cleaner_op, CleanerState, closer_op, CloserState, flusher_holds, flusher_op, FlusherState, next, SharedWords, user_op, UserState, writer_holds, writer_op, WriterState, reader_holds, reader_op, ReaderState, LogSide, Setup}
 use Rattle.model_core.specs.declared.ops.Op.{Op}
 use Rattle.model_core.specs.declared.steps.AdvanceStep.{AdvanceStep}
 use Rattle.model_core.specs.declared.words.LinkBuffer.{LinkBuffer}
@@ -17,9 +14,7 @@ use Rattle.model_core.specs.declared.steps.UserStep.{UserStep}
 use Rattle.model_core.specs.declared.steps.WriterStep.{WriterStep}
 use Rattle.model_logcore.proofs.DeviceSteps.{can_write}
 use Rattle.model_logcore.specs.LogFacts.{LogGhost}
-use Rattle.model_logcore.specs.LogFits.{FlusherAt, FlusherFits, WriterAt, WriterFits}
-use Rattle.model_logcore.specs.LogFits.{ReaderAt, ReaderFits}
-use Rattle.model_logcore.specs.LogHalf.{LogHalf}
+use Rattle.model_logcore.specs.LogFits.{FlusherAt, FlusherFits, WriterAt, WriterFits, ReaderAt, ReaderFits, LogHalf}
 use Rattle.model_logcore.specs.LogLaws.{CanCheckpoint, LogLaws}
 use Rattle.model_logcore.specs.Ready.{Ready}
 use Rattle.model_core.specs.declared.words.Word.TheVariants as word
@@ -33,7 +28,7 @@ use Rattle.model_core.specs.declared.steps.ReaderStep.TheVariants as reader_step
 use Rattle.model_core.specs.declared.steps.CloserStep.TheVariants as closer_step
 use Rattle.model_core.specs.declared.steps.CleanerStep.TheVariants as cleaner_step
 use Rattle.model_core.specs.declared.steps.CheckpointerStep.TheVariants as checkpointer_step
-use Rattle.model_core.specs.Actors as actor
+use Rattle.model_core.specs.States as actor
 use mathlib.Core.Option as maybe
 
 module _ (D : LogSide) (L : LogLaws D) (c : Setup) (m : SharedWords) (g : LogGhost) (p : D.Part) (actors : List Actor) (seat : ℕ) (before : LogHalf D c m g p actors) where

@@ -12,18 +12,15 @@ use Rattle.model_core.proofs.Lists.{at_last, at_longer}
 use Rattle.model_core.proofs.Groups.{at_end, at_less, back, bound_snoc, byte_snoc, crosses_is, first_from, first_snoc, ranged, ranged_below, ranged_in, stream_long, stream_snoc, tiles_at, tiles_snoc, sum_of_append}
 use Rattle.model_core.proofs.Lanes.{base_word}
 use Rattle.model_core.proofs.Lsns.{lsn_below, lsn_le}
-use Rattle.model_core.specs.{Actor, byte_at, end_of, entries, Entry, entry, first_of, group_bytes, Line, line, line_at, PageChange, SharedWords, stream, sum_of, Tiles, user_took, UserState}
-use Rattle.model_core.specs.LogSide.{LogSide}
-use Rattle.model_core.specs.Setup.{Setup}
+use Rattle.model_core.specs.{Actor, byte_at, end_of, entries, Entry, entry, first_of, group_bytes, Line, line, line_at, PageChange, SharedWords, stream, sum_of, Tiles, user_took, UserState, LogSide, Setup}
 use Rattle.model_logcore.proofs.UserGroups.{count_snoc, entries_snoc, lengths_step, none_of, one_of}
 use Rattle.model_logcore.proofs.Frame.{unchanged, Kept, moved, others_later, taken_same, total_set}
 use Rattle.model_logcore.proofs.Same.{numbers_sized}
 use Rattle.model_logcore.specs.LogFacts.{LogGhost, Place, count_of, sum_over_actors}
-use Rattle.model_logcore.specs.LogFits.{UserAt, UserFits}
-use Rattle.model_logcore.specs.LogHalf.{LogHalf, left_to_reserve, lengths}
+use Rattle.model_logcore.specs.LogFits.{UserAt, UserFits, LogHalf, left_to_reserve, lengths}
 use Rattle.model_logcore.specs.LogLaws.{LogLaws}
 use Rattle.model_core.specs.declared.steps.UserStep.TheVariants as user_step
-use Rattle.model_core.specs.Actors as actor
+use Rattle.model_core.specs.States as actor
 
 -- a block with a first offset begins at or below the end of the groups
 first_low : (base : ℕ) (log : List Entry) (n q v : ℕ) → Tiles base log n → base ≤ n → 0 < v → v ≡ first_of base log q → q ≤ n / BLOCK_DATA

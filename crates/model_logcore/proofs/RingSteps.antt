@@ -10,9 +10,7 @@ use Rattle.model_core.proofs.Groups.{changed, changed_else, changed_here, entry_
 use Rattle.model_core.proofs.Lanes.{add_else, add_here, add_wide, cell_word, left_fits, next_are, next_few, next_lanes, next_long, next_some, next_within, same_word, word_grows, word_up}
 use Rattle.model_core.proofs.Lsns.{block_below, block_window, floor_grows, lsn_block, lsn_le, lsn_less, lsn_offset, lsn_wide, ring_same}
 unfoldable use Rattle.model_core.specs.{lane, packed}
-use Rattle.model_core.specs.{Actor, Advance, byte_at, byte_in, cell_of, copy_place, end_of, entries, Entry, entry, first_of, floor, group_bytes, group_end, IsSized, layout_of, lane_of, line, LoadedMarks, lsn, next_bytes, next_count, SharedWords, user_took, UserState}
-use Rattle.model_core.specs.LogSide.{LogSide}
-use Rattle.model_core.specs.Setup.{Setup}
+use Rattle.model_core.specs.{Actor, Advance, byte_at, byte_in, cell_of, copy_place, end_of, entries, Entry, entry, first_of, floor, group_bytes, group_end, IsSized, layout_of, lane_of, line, LoadedMarks, lsn, next_bytes, next_count, SharedWords, user_took, UserState, LogSide, Setup}
 use Rattle.model_core.specs.declared.steps.UserStep.{UserStep}
 use Rattle.model_core.specs.declared.limits.TheConstants.{BUFFER_WORDS, LOG_BUFFER}
 use Rattle.model_base.specs.declared.limits.TheConstants.{MAX_GROUP}
@@ -20,10 +18,9 @@ use Rattle.model_logcore.proofs.UserGroups.{crossing_same, first_is}
 use Rattle.model_logcore.proofs.Frame.{unchanged, Kept, Later, Still, others_later, moved_on}
 use Rattle.model_logcore.proofs.Same.{cells_sized, firsts_sized, stored_here, stored_else}
 use Rattle.model_logcore.specs.LogFacts.{WrittenLinks, HasZeroLane, LogGhost, LogFacts, FirstOffsets, InHand, RingCells, count_of, Commits}
-use Rattle.model_logcore.specs.LogFits.{AreBelow, Hand, UserAt, UserFits}
-use Rattle.model_logcore.specs.LogHalf.{LogHalf, left_to_reserve}
+use Rattle.model_logcore.specs.LogFits.{AreBelow, Hand, UserAt, UserFits, LogHalf, left_to_reserve}
 use Rattle.model_core.specs.declared.steps.UserStep.TheVariants as user_step
-use Rattle.model_core.specs.Actors as actor
+use Rattle.model_core.specs.States as actor
 
 -- what speaks of linked places alone stays, where these stay
 pub heads_states : {base write entered : ℕ} {slots : List ℕ} {log : List Entry} {first : ℕ → ℕ} (s t : ℕ → ℕ) → ((x : ℕ) → t x ≡ 2 → s x ≡ 2) → FirstOffsets base slots write log first s entered → FirstOffsets base slots write log first t entered

@@ -2,9 +2,7 @@
 use Rattle.std.proofs.Common.{Bool, List, ap, arith, false, get_or-set_other, get_or-set_same, length, length-set, refl, set, subst, sym, true, ℕ, ◌*◌, ◌+◌, ◌<◌, ◌∙◌, ◌≡◌, ◌≤◌, ◌≢◌}
 use Rattle.std.specs.Prelude.{slice_set, slice_index}
 use native.Mathlib.Decide.{ℕ_discrete}
-use Rattle.model_core.specs.{Advance, blank_words, frame_words, IsBound, IsSized, lsn, page_words_at, PageWords, SharedWords, with_page_words, writer_holds, WriterState}
-use Rattle.model_core.specs.LogSide.{LogSide}
-use Rattle.model_core.specs.Setup.{Setup}
+use Rattle.model_core.specs.{Advance, blank_words, frame_words, IsBound, IsSized, lsn, page_words_at, PageWords, SharedWords, with_page_words, writer_holds, WriterState, LogSide, Setup}
 use Rattle.model_core.specs.declared.words.Layout.{Layout}
 use Rattle.model_log.specs.declared.layout.TheConstants.{BLOCK_DATA}
 use Rattle.model_core.specs.declared.steps.WriterStep.{WriterStep}

@@ -1,12 +1,7 @@
 -- An actor that has done nothing holds no slot and no tail.
-use Rattle.model_core.specs.States.{ReaderState}
-use Rattle.model_core.specs.Hands.{reader_hand}
+use Rattle.model_core.specs.{ReaderState, reader_hand, checkpointer_hand, cleaner_hand, flusher_hand, hand, HoldsNothing, user_hand, writer_hand, closer_holds_tail, user_holds_tail, writer_holds_tail, CheckpointerState, CleanerState, CloserState, FlusherState, holds_tail, new_user, UserState, WriterState, Setup}
 use Rattle.std.proofs.Common.{Bool, None, ap, cond, false, length, refl, true, ℕ, ◌==◌, ◌∙◌, ◌≡◌}
-use Rattle.model_core.specs.{CheckpointerState, CleanerState, CloserState, FlusherState, holds_tail, new_user, UserState, WriterState}
-use Rattle.model_core.specs.Actors as model
-use Rattle.model_core.specs.Hands.{checkpointer_hand, cleaner_hand, flusher_hand, hand, HoldsNothing, user_hand, writer_hand}
-use Rattle.model_core.specs.Holding.{closer_holds_tail, user_holds_tail, writer_holds_tail}
-use Rattle.model_core.specs.Setup.{Setup}
+use Rattle.model_core.specs.States as model
 use Rattle.model_core.specs.declared.steps.AdvanceStep.TheVariants as advance_step
 use Rattle.model_core.specs.declared.steps.CloserStep.TheVariants as closer_step
 use Rattle.model_core.specs.declared.steps.UserStep.TheVariants as user_step

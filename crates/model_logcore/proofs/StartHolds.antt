@@ -1,6 +1,6 @@
 -- The log half holds at the start of a run, with a user that gets a seat later, and where one seat takes in another's groups.
-use Rattle.model_core.specs.States.{ReaderState}
-use Rattle.model_logcore.specs.LogFits.{ReaderAt}
+use Rattle.model_core.specs.{ReaderState, Actor, cell_of, ChecksWithoutTail, CheckpointerState, CleanerState, CloserState, entries, entries_from, first_of, floor, FlusherState, holds, lane_of, LoadedMarks, lsn, SharedWords, sum_of, WriterState, LogSide, Setup, StartWords}
+use Rattle.model_logcore.specs.LogFits.{ReaderAt, AreBelow, CheckpointerFits, FlusherFits, LogFits, UserAt, WriterFits, LogHalf, left_to_reserve}
 use Rattle.std.proofs.Common.{Bool, List, [], ap, arith, cond, eq-eqb, eqb, false, length, ne_eqb, refl, subst, suc, sym, true, ℕ, ⊎_elim, ◌+◌, ◌/◌, ◌<◌, ◌∙◌, ◌∷◌, ◌≡◌, ◌*◌}
 use lib.ListN.{get_elem?}
 use native.Mathlib.Decide.{ℕ_discrete}
@@ -10,20 +10,14 @@ use Rattle.model_core.proofs.Groups.{first_base}
 use Rattle.model_core.proofs.Lanes.{base_word, lane_of_zero}
 use Rattle.model_core.proofs.Lsns.{floor_lsn, lsn_block, lsn_offset}
 unfoldable use Rattle.model_core.specs.{lane}
-use Rattle.model_core.specs.{Actor, cell_of, ChecksWithoutTail, CheckpointerState, CleanerState, CloserState, entries, entries_from, first_of, floor, FlusherState, holds, lane_of, LoadedMarks, lsn, SharedWords, sum_of, WriterState}
-use Rattle.model_core.specs.LogSide.{LogSide}
-use Rattle.model_core.specs.Setup.{Setup}
 use Rattle.model_logcore.proofs.NewUsers.{new_user_is}
 use Rattle.model_logcore.proofs.StartEmpty.{start_tail}
 use Rattle.model_logcore.specs.LogFacts.{LogFacts, LogGhost, sum_over_actors}
-use Rattle.model_logcore.specs.LogFits.{AreBelow, CheckpointerFits, FlusherFits, LogFits, UserAt, WriterFits}
-use Rattle.model_logcore.specs.LogHalf.{LogHalf, left_to_reserve}
 use Rattle.model_logcore.specs.Start.{StartActor, StartPart}
-use Rattle.model_core.specs.StartWords.{StartWords}
 use Rattle.model_core.specs.declared.steps.AdvanceStep.TheVariants as advance_step
 use Rattle.model_core.specs.declared.steps.CloserStep.TheVariants as closer_step
 use Rattle.model_core.specs.declared.steps.CleanerStep.TheVariants as cleaner_step
-use Rattle.model_core.specs.Actors as actor
+use Rattle.model_core.specs.States as actor
 use mathlib.Core.Option as maybe
 
 module _ (D : LogSide) (c : Setup) (m : SharedWords) (p : D.Part) (seat_of : ℕ → ℕ) (writer : ℕ) (W : StartWords c m) (P : StartPart D c p) where

@@ -6,10 +6,7 @@ use native.Mathlib.Decide.{ℕ_discrete}
 use Rattle.model_base.specs.declared.limits.TheConstants.{LSN_LIMIT, MAX_GROUP}
 use Rattle.model_core.proofs.Groups.{changed, changed_else, changed_here}
 use Rattle.model_core.proofs.Lists.{at_set, set_else}
-use Rattle.model_core.specs.{Actor, ChecksWithoutTail, entries_from, Entry, entry, HasHolder, holds, holds_tail, Line, line_at, lsn, PageChange, SharedWords, UserState}
-use Rattle.model_core.specs.Holding.{user_holds_tail}
-use Rattle.model_core.specs.LogSide.{LogSide}
-use Rattle.model_core.specs.Setup.{Setup}
+use Rattle.model_core.specs.{Actor, ChecksWithoutTail, entries_from, Entry, entry, HasHolder, holds, holds_tail, Line, line_at, lsn, PageChange, SharedWords, UserState, user_holds_tail, LogSide, Setup}
 use Rattle.model_core.specs.declared.steps.UserStep.{UserStep}
 use Rattle.model_core.specs.declared.steps.UserStep.TheVariants as user_step
 use Rattle.model_core.specs.declared.words.LinkBuffer.{LinkBuffer}
@@ -17,9 +14,8 @@ use Rattle.model_core.specs.declared.words.LinkBuffer.TheVariants as link_buffer
 use Rattle.model_logcore.proofs.Frame.{counted_same, taken_same}
 use Rattle.model_logcore.proofs.UserGroups.{count_front}
 use Rattle.model_logcore.specs.LogFacts.{Commits, count_of, LogFacts, LogGhost, LogPartFacts, sum_over_actors, Tiled}
-use Rattle.model_logcore.specs.LogFits.{LogFits, UserAt, UserFits}
-use Rattle.model_logcore.specs.LogHalf.{LogHalf, left_to_reserve}
-use Rattle.model_core.specs.Actors as actor
+use Rattle.model_logcore.specs.LogFits.{LogFits, UserAt, UserFits, LogHalf, left_to_reserve}
+use Rattle.model_core.specs.States as actor
 use mathlib.Core.Option as maybe
 
 -- the script with these lines of a user

@@ -5,9 +5,7 @@ use Rattle.std.specs.Prelude.{slice_index, slice_set}
 use lib.ListN.{get_elem?}
 use mathlib.Core.Option.{some}
 use Rattle.model_core.proofs.Tails.{held_in, tail_in}
-use Rattle.model_core.specs.{Actor, Advance, Entry, is_held, SharedWords, tail_of, tail_word, user_took, UserState}
-use Rattle.model_core.specs.LogSide.{LogSide}
-use Rattle.model_core.specs.Setup.{Setup}
+use Rattle.model_core.specs.{Actor, Advance, Entry, is_held, SharedWords, tail_of, tail_word, user_took, UserState, LogSide, Setup}
 use Rattle.model_core.specs.declared.steps.AdvanceStep.{AdvanceStep}
 use Rattle.model_core.specs.declared.steps.UserStep.{UserStep}
 use Rattle.model_core.specs.declared.limits.TheConstants.{ADVANCE_PLACES, WRITTEN_LINKS}
@@ -16,11 +14,10 @@ use Rattle.model_logcore.proofs.Frame.{Kept}
 use Rattle.model_logcore.proofs.RingSteps.{refit_advance, steps}
 use Rattle.model_logcore.proofs.Same.{still_same}
 use Rattle.model_logcore.specs.LogFacts.{LogGhost}
-use Rattle.model_logcore.specs.LogFits.{AdvanceAt, HasAllCopied, HoldsWtail, UserAt, UserFits}
-use Rattle.model_logcore.specs.LogHalf.{LogHalf}
+use Rattle.model_logcore.specs.LogFits.{AdvanceAt, HasAllCopied, HoldsWtail, UserAt, UserFits, LogHalf}
 use Rattle.model_core.specs.declared.steps.AdvanceStep.TheVariants as advance_step
 use Rattle.model_core.specs.declared.steps.UserStep.TheVariants as user_step
-use Rattle.model_core.specs.Actors as actor
+use Rattle.model_core.specs.States as actor
 
 module _ (D : LogSide) (c : Setup) (m : SharedWords) (g : LogGhost) (p : D.Part) (actors : List Actor) (seat : ℕ) (u : UserState) (before : LogHalf D c m g p actors) (at : get_elem? actors seat ≡ some (actor.User u)) where
   mine : UserFits D c m g p seat u

@@ -4,10 +4,9 @@ use lib.ListN.{get_elem?}
 use native.Mathlib.Decide.{dec_le, ℕ_discrete}
 use Rattle.model_log.specs.declared.layout.TheConstants.{BLOCK_DATA}
 use Rattle.model_core.proofs.Groups.{crosses_is, crossing_some, crossing_there, some_same, sum_of_append, tiles_at}
-use Rattle.model_core.specs.{crosses, crossing, end_of, entries_from, Entry, entry, first_of, Line, line_at}
-use Rattle.model_core.specs.Setup.{Setup}
+use Rattle.model_core.specs.{crosses, crossing, end_of, entries_from, Entry, entry, first_of, Line, line_at, Setup}
 use Rattle.model_logcore.specs.LogFacts.{Place, Tiled, count_of}
-use Rattle.model_logcore.specs.LogHalf.{lengths}
+use Rattle.model_logcore.specs.LogFits.{lengths}
 use mathlib.Core.Option as maybe
 
 pub entries_snoc : (user : ℕ) (lines : List Line) (k : ℕ) (starts : List ℕ) (n : ℕ) → entries_from user lines k (starts ++ n ∷ []) ≡ entries_from user lines k starts ++ entry user (k + length starts) n (line_at lines (k + length starts)) ∷ []

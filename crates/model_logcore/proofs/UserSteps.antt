@@ -6,9 +6,7 @@ use lib.ListN.{get_elem?}
 use mathlib.Core.Option.{some}
 use Rattle.model_core.proofs.Groups.{changed, changed_else, changed_here}
 use Rattle.model_core.proofs.Tails.{tail_in}
-use Rattle.model_core.specs.{Actor, Advance, after, answered, cells_of, change_at, changes, current_page, entries, Entry, floor, found, frame_count, frame_word, group_end, is_held, is_whole, IsSized, layout_of, LoadedMarks, lsn, mode, OnWord, page_words_at, PageWords, phase_log, SharedWords, stored_word, tail_of, tail_word, to_next_page, user_op, user_took, UserState, with_mark, with_page_words}
-use Rattle.model_core.specs.LogSide.{LogSide}
-use Rattle.model_core.specs.Setup.{Setup}
+use Rattle.model_core.specs.{Actor, Advance, after, answered, cells_of, change_at, changes, current_page, entries, Entry, floor, found, frame_count, frame_word, group_end, is_held, is_whole, IsSized, layout_of, LoadedMarks, lsn, mode, OnWord, page_words_at, PageWords, phase_log, SharedWords, stored_word, tail_of, tail_word, to_next_page, user_op, user_took, UserState, with_mark, with_page_words, LogSide, Setup}
 use Rattle.model_core.specs.declared.ops.Op.{Op}
 use Rattle.model_core.specs.declared.steps.AdvanceStep.{AdvanceStep}
 use Rattle.model_core.specs.declared.steps.UserStep.{UserStep}
@@ -21,15 +19,14 @@ use Rattle.model_logcore.proofs.ReserveSteps.{keeps_reserve}
 use Rattle.model_logcore.proofs.RingSteps.{keeps_add_cell, keeps_store_first, refit, refit_advance, shifted, steps, still_words}
 use Rattle.model_logcore.proofs.Same.{clinks_sized, facts_same, later_marks, lists_sized, numbers_sized, page_sized}
 use Rattle.model_logcore.specs.LogFacts.{LogGhost, LogFacts}
-use Rattle.model_logcore.specs.LogFits.{AreBelow, HasAllCopied, HasStoppedAt, UserAt, UserFits}
-use Rattle.model_logcore.specs.LogHalf.{LogHalf, left_to_reserve}
+use Rattle.model_logcore.specs.LogFits.{AreBelow, HasAllCopied, HasStoppedAt, UserAt, UserFits, LogHalf, left_to_reserve}
 use Rattle.model_logcore.specs.LogLaws.{LogLaws}
 use Rattle.model_core.specs.declared.words.Word.TheVariants as word
 use Rattle.model_core.specs.declared.ops.Op.TheVariants as op
 use Rattle.model_core.specs.declared.steps.AdvanceStep.TheVariants as advance_step
 use Rattle.model_core.specs.declared.steps.UserStep.TheVariants as user_step
 use Rattle.model_logcore.proofs.UserAdvances as written
-use Rattle.model_core.specs.Actors as actor
+use Rattle.model_core.specs.States as actor
 
 module _ (D : LogSide) (L : LogLaws D) (c : Setup) (m : SharedWords) (g : LogGhost) (p : D.Part) (actors : List Actor) (seat : ℕ) (u : UserState) (before : LogHalf D c m g p actors) (at : get_elem? actors seat ≡ some (actor.User u)) where
   mine : UserFits D c m g p seat u

@@ -1,6 +1,6 @@
 -- The log half of the invariant gives the watermarks.
 use Rattle.model_core.specs.declared.steps.ReaderStep.TheVariants as reader_step
-use Rattle.model_logcore.specs.LogFits.{ReaderAt, ReaderFits}
+use Rattle.model_logcore.specs.LogFits.{ReaderAt, ReaderFits, AdvanceAt, CheckpointerAt, CheckpointerFits, EndIsNear, FlusherAt, FlusherFits, Hand, HasLinked, HasStoredFirst, HoldsWtail, LacksFirst, UserAt, UserFits, WriterAt, WriterFits, LogHalf}
 use Rattle.std.proofs.Common.{Bool, List, ap, arith, cond, eqb, eqb-true, false, inl, inr, length, refl, subst, sym, true, ℕ, ⊎_elim, ◌%◌, ◌+◌, ◌/◌, ◌<◌, ◌∙◌, ◌≡◌, ◌≢◌, ◌≤◌}
 use Rattle.std.proofs.lemmas.Bool.{eqb-false}
 use lib.ListN.{get_elem?}
@@ -9,11 +9,7 @@ use Rattle.model_log.specs.declared.layout.TheConstants.{BLOCK_DATA}
 use Rattle.model_core.proofs.Groups.{is_crosses, tiles_at}
 use Rattle.model_core.proofs.Lanes.{word_grows}
 use Rattle.model_core.proofs.Lsns.{lsn_le}
-use Rattle.model_core.specs.{Actor, Advance, advance_of, end_of, Entry, entry, first_of, floor, group_bytes, group_end, holds_tail, line, lsn, SharedWords, UserState, WriterState}
-use Rattle.model_core.specs.LogSide.{LogSide}
-use Rattle.model_core.specs.Setup.{Setup}
-use Rattle.model_core.specs.Holding.{advance_holds}
-use Rattle.model_core.specs.Holding.{closer_holds_tail, user_holds_tail, writer_holds_tail}
+use Rattle.model_core.specs.{Actor, Advance, advance_of, end_of, Entry, entry, first_of, floor, group_bytes, group_end, holds_tail, line, lsn, SharedWords, UserState, WriterState, LogSide, Setup, advance_holds, closer_holds_tail, user_holds_tail, writer_holds_tail}
 use Rattle.model_core.specs.declared.steps.AdvanceStep.{AdvanceStep}
 use Rattle.model_core.specs.declared.steps.CloserStep.{CloserStep}
 use Rattle.model_core.specs.declared.steps.UserStep.{UserStep}
@@ -22,8 +18,6 @@ use Rattle.model_core.specs.declared.limits.TheConstants.{LOG_BUFFER}
 use Rattle.model_logcore.proofs.GroupEnds.{end_near, hand_end_near}
 use Rattle.model_logcore.proofs.UserGroups.{first_is}
 use Rattle.model_logcore.specs.LogFacts.{LogGhost}
-use Rattle.model_logcore.specs.LogFits.{AdvanceAt, CheckpointerAt, CheckpointerFits, EndIsNear, FlusherAt, FlusherFits, Hand, HasLinked, HasStoredFirst, HoldsWtail, LacksFirst, UserAt, UserFits, WriterAt, WriterFits}
-use Rattle.model_logcore.specs.LogHalf.{LogHalf}
 use Rattle.model_logcore.specs.TailWord.{TailWordIs}
 use Rattle.model_logcore.specs.Watermarks.{first_in_hand, HandAgrees, HasCopied, HasLoadedBelow, HasMetFailure, IsGroupLinked, LogWatermarks, OwnMarkIs, UsersAgree}
 use Rattle.model_core.specs.declared.steps.AdvanceStep.TheVariants as advance_step
@@ -33,7 +27,7 @@ use Rattle.model_core.specs.declared.steps.UserStep.TheVariants as user_step
 use Rattle.model_core.specs.declared.steps.WriterStep.TheVariants as writer_step
 use Rattle.model_core.specs.declared.steps.FlusherStep.TheVariants as flusher_step
 use Rattle.model_core.specs.declared.steps.CheckpointerStep.TheVariants as checkpointer_step
-use Rattle.model_core.specs.Actors as actor
+use Rattle.model_core.specs.States as actor
 use mathlib.Core.Option as maybe
 
 module _ (D : LogSide) (c : Setup) (m : SharedWords) (g : LogGhost) (p : D.Part) (actors : List Actor) (half : LogHalf D c m g p actors) where

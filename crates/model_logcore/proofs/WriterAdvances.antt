@@ -6,9 +6,7 @@ use lib.ListN.{get_elem?}
 use native.Mathlib.Decide.{dec_le}
 use Rattle.model_core.proofs.Lsns.{lsn_le}
 use Rattle.model_core.proofs.Tails.{held_in, tail_in}
-use Rattle.model_core.specs.{Actor, Advance, Entry, is_held, lsn, SharedWords, tail_of, tail_word, writer_holds, writer_took, WriterState}
-use Rattle.model_core.specs.LogSide.{LogSide}
-use Rattle.model_core.specs.Setup.{Setup}
+use Rattle.model_core.specs.{Actor, Advance, Entry, is_held, lsn, SharedWords, tail_of, tail_word, writer_holds, writer_took, WriterState, LogSide, Setup}
 use Rattle.model_core.specs.declared.steps.WriterStep.{WriterStep}
 use Rattle.model_core.specs.declared.limits.TheConstants.{ADVANCE_PLACES, WRITTEN_LINKS}
 use Rattle.model_logcore.proofs.AdvanceSteps.{clears_link, frees_tail, holds_it, is_free, Moves, stays, takes_tail}
@@ -16,13 +14,12 @@ use Rattle.model_logcore.proofs.Frame.{unchanged, Kept}
 use Rattle.model_logcore.proofs.Same.{later_marks, order_on, writer_same}
 use Rattle.model_logcore.proofs.WriterSteps.{own, wsteps}
 use Rattle.model_logcore.specs.LogFacts.{LogGhost}
-use Rattle.model_logcore.specs.LogFits.{AdvanceAt, HoldsWtail, IsIdle, WriterAt, WriterFits}
-use Rattle.model_logcore.specs.LogHalf.{LogHalf}
+use Rattle.model_logcore.specs.LogFits.{AdvanceAt, HoldsWtail, IsIdle, WriterAt, WriterFits, LogHalf}
 use mathlib.Core.Option as maybe
 use Rattle.model_core.specs.declared.ops.Answer.TheVariants as answer
 use Rattle.model_core.specs.declared.steps.AdvanceStep.TheVariants as advance_step
 use Rattle.model_core.specs.declared.steps.WriterStep.TheVariants as writer_step
-use Rattle.model_core.specs.Actors as actor
+use Rattle.model_core.specs.States as actor
 
 module _ (D : LogSide) (c : Setup) (m : SharedWords) (g : LogGhost) (p : D.Part) (actors : List Actor) (seat : ℕ) (s : WriterState) (before : LogHalf D c m g p actors) (at : get_elem? actors seat ≡ maybe.some (actor.Writer s)) where
   mine : WriterFits D c m g p seat s

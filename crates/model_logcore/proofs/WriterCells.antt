@@ -9,21 +9,18 @@ use Rattle.model_core.proofs.Groups.{back, crosses_is, first_from, front, tiles_
 use Rattle.model_core.proofs.Lanes.{cell_word, in_later_word, lane_of_zero, lanes_are, lanes_long, later_word, left_block, next_lanes, part_word, same_word, whole_word, word_grows, word_up}
 use Rattle.model_core.proofs.Lsns.{floor_grows, floor_lsn, lsn_block, lsn_le, lsn_same, ring_same}
 unfoldable use Rattle.model_core.specs.{lane, lanes}
-use Rattle.model_core.specs.{Actor, byte_at, ceiling, cell_of, end_of, Entry, first_of, floor, has_whole_word, IsLent, lane_of, left_in_word, lsn, read_place, SharedWords, stands_outside, word_end, writer_holds, writer_took, WriterState}
-use Rattle.model_core.specs.LogSide.{LogSide}
-use Rattle.model_core.specs.Setup.{Setup}
+use Rattle.model_core.specs.{Actor, byte_at, ceiling, cell_of, end_of, Entry, first_of, floor, has_whole_word, IsLent, lane_of, left_in_word, lsn, read_place, SharedWords, stands_outside, word_end, writer_holds, writer_took, WriterState, LogSide, Setup}
 use Rattle.model_core.specs.declared.steps.WriterStep.{WriterStep}
 use Rattle.model_core.specs.declared.limits.TheConstants.{BUFFER_WORDS, LOG_BUFFER}
 use Rattle.model_logcore.proofs.Same.{cells_sized, firsts_sized, later_marks, order_on, stored_here, stored_else}
 use Rattle.model_logcore.proofs.WriterSteps.{WNow, own, ranks, wquiet, wsteps}
 use Rattle.model_logcore.proofs.Frame.{unchanged, Kept}
 use Rattle.model_logcore.specs.LogFacts.{LogGhost, RingCells}
-use Rattle.model_logcore.specs.LogFits.{WriterAt, WriterFits}
-use Rattle.model_logcore.specs.LogHalf.{LogHalf}
+use Rattle.model_logcore.specs.LogFits.{WriterAt, WriterFits, LogHalf}
 use mathlib.Core.Option as maybe
 use Rattle.model_core.specs.declared.ops.Answer.TheVariants as answer
 use Rattle.model_core.specs.declared.steps.WriterStep.TheVariants as writer_step
-use Rattle.model_core.specs.Actors as actor
+use Rattle.model_core.specs.States as actor
 
 module _ (D : LogSide) (c : Setup) (m : SharedWords) (g : LogGhost) (p : D.Part) (actors : List Actor) (seat : ℕ) (s : WriterState) (before : LogHalf D c m g p actors) (at : get_elem? actors seat ≡ maybe.some (actor.Writer s)) where
   fit : WriterFits D c m g p seat s

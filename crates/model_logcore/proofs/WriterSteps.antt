@@ -2,18 +2,15 @@
 use Rattle.std.proofs.Common.{Bool, List, arith, false, refl, set, sym, true, ℕ, ◌+◌, ◌<◌, ◌∙◌, ◌≡◌, ◌≢◌, ◌≤◌}
 use lib.ListN.{get_elem?}
 use Rattle.model_core.proofs.Lsns.{lsn_le}
-use Rattle.model_core.specs.{Actor, floor, holds, IsSized, layout_of, SharedWords, writer_holds, WriterState}
-use Rattle.model_core.specs.LogSide.{LogSide}
-use Rattle.model_core.specs.Setup.{Setup}
+use Rattle.model_core.specs.{Actor, floor, holds, IsSized, layout_of, SharedWords, writer_holds, WriterState, LogSide, Setup}
 use Rattle.model_core.specs.declared.steps.WriterStep.{WriterStep}
 use Rattle.model_core.specs.declared.limits.TheConstants.{LOG_BUFFER}
 use Rattle.model_logcore.proofs.Frame.{unchanged, Kept, Later, others_writer, moved_on}
 use Rattle.model_logcore.proofs.Same.{later_marks, writer_same}
 use Rattle.model_logcore.specs.LogFacts.{LogGhost, LogFacts}
-use Rattle.model_logcore.specs.LogFits.{WriterAt, WriterFits}
-use Rattle.model_logcore.specs.LogHalf.{LogHalf}
+use Rattle.model_logcore.specs.LogFits.{WriterAt, WriterFits, LogHalf}
 use mathlib.Core.Option as maybe
-use Rattle.model_core.specs.Actors as actor
+use Rattle.model_core.specs.States as actor
 
 module _ (D : LogSide) (c : Setup) (m : SharedWords) (g : LogGhost) (p : D.Part) (actors : List Actor) (seat : ℕ) (s : WriterState) (before : LogHalf D c m g p actors) (at : get_elem? actors seat ≡ maybe.some (actor.Writer s)) where
   pub own : WriterFits D c m g p seat s

@@ -8,20 +8,17 @@ use Rattle.model_log.specs.declared.layout.TheConstants.{BLOCK_DATA}
 use Rattle.model_core.proofs.Lanes.{turn_before, turned_far}
 use Rattle.model_core.proofs.Lsns.{floor_grows, lsn_le}
 unfoldable use Rattle.model_core.specs.{lane}
-use Rattle.model_core.specs.{Actor, byte_at, byte_in, Entry, first_of, floor, full_blocks, lsn, SharedWords, writer_holds, writer_took, WriterState}
-use Rattle.model_core.specs.LogSide.{LogSide}
-use Rattle.model_core.specs.Setup.{Setup}
+use Rattle.model_core.specs.{Actor, byte_at, byte_in, Entry, first_of, floor, full_blocks, lsn, SharedWords, writer_holds, writer_took, WriterState, LogSide, Setup}
 use Rattle.model_core.specs.declared.limits.TheConstants.{BUFFER_WORDS, LOG_BUFFER}
 use Rattle.model_logcore.proofs.Same.{facts_same, later_marks, numbers_sized, part_same, writer_same}
 use Rattle.model_logcore.proofs.WriterSteps.{own, ranks, tail_near, wsteps}
 use Rattle.model_logcore.proofs.Frame.{unchanged, Kept}
 use Rattle.model_logcore.specs.LogFacts.{LogGhost}
-use Rattle.model_logcore.specs.LogFits.{WriterAt, WriterFits}
-use Rattle.model_logcore.specs.LogHalf.{LogHalf}
+use Rattle.model_logcore.specs.LogFits.{WriterAt, WriterFits, LogHalf}
 use mathlib.Core.Option as maybe
 use Rattle.model_core.specs.declared.ops.Answer.TheVariants as answer
 use Rattle.model_core.specs.declared.steps.WriterStep.TheVariants as writer_step
-use Rattle.model_core.specs.Actors as actor
+use Rattle.model_core.specs.States as actor
 
 module _ (D : LogSide) (c : Setup) (m : SharedWords) (g : LogGhost) (p : D.Part) (actors : List Actor) (seat : ℕ) (s : WriterState) (before : LogHalf D c m g p actors) (at : get_elem? actors seat ≡ maybe.some (actor.Writer s)) where
   fit : WriterFits D c m g p seat s

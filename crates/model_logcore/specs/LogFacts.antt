@@ -2,9 +2,7 @@
 use Rattle.std.specs.Prelude.{Bool, List, [], cond, false, length, slice_index, take, ℕ, ◌%◌, ◌*◌, ◌+◌, ◌/◌, ◌<◌, ◌==◌, ◌^◌, ◌∷◌, ◌≡◌, ◌≤◌, ◌⊎◌}
 use lib.ListN.{get_elem?}
 use mathlib.Core.Option.{some}
-use Rattle.model_core.specs.{byte_at, byte_in, end_of, Entry, entry, first_of, floor, IsBound, Line, line_at, lsn, PageChange, SharedWords, sum_of, Tiles}
-use Rattle.model_core.specs.LogSide.{LogSide}
-use Rattle.model_core.specs.Setup.{Setup}
+use Rattle.model_core.specs.{byte_at, byte_in, end_of, Entry, entry, first_of, floor, IsBound, Line, line_at, lsn, PageChange, SharedWords, sum_of, Tiles, LogSide, Setup}
 use Rattle.model_base.specs.declared.limits.TheConstants.{BLOCK_SIZE}
 use Rattle.model_log.specs.declared.layout.TheConstants.{BLOCK_DATA}
 use Rattle.model_core.specs.declared.limits.TheConstants.{LOG_BUFFER, BUFFER_BLOCKS, WORD_LANES, WRITTEN_LINKS}

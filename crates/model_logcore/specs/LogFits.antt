@@ -1,11 +1,9 @@
--- The log half of the invariant: what holds of each actor.
-use Rattle.std.specs.Prelude.{Bool, false, length, slice_index, true, ℕ, ◌%◌, ◌*◌, ◌+◌, ◌/◌, ◌<◌, ◌≡◌, ◌≢◌, ◌≤◌, ◌⊎◌}
+-- The log half of the invariant: what holds of each actor, and the whole.
+use Rattle.std.specs.Prelude.{Bool, false, length, slice_index, true, ℕ, ◌%◌, ◌*◌, ◌+◌, ◌/◌, ◌<◌, ◌≡◌, ◌≢◌, ◌≤◌, ◌⊎◌, List, [], drop, ◌∷◌}
 use lib.ListN.{get_elem?}
 use mathlib.Core.Option.{some}
-use Rattle.model_core.specs.{Actor, Advance, byte_at, ceiling, checkpointer_holds, CheckpointerState, CleanerState, entry, first_of, floor, flusher_holds, FlusherState, reader_holds, ReaderState, group_bytes, group_end, lane_of, left_in_word, line, line_at, LoadedMarks, lsn, mode, read_place, SharedWords, UserState, word_end, writer_holds, WriterState}
+use Rattle.model_core.specs.{Actor, Advance, byte_at, ceiling, checkpointer_holds, CheckpointerState, CleanerState, entry, first_of, floor, flusher_holds, FlusherState, reader_holds, ReaderState, group_bytes, group_end, lane_of, left_in_word, line, line_at, LoadedMarks, lsn, mode, read_place, SharedWords, UserState, word_end, writer_holds, WriterState, ChecksWithoutTail, entries, Entry, HasHolder, holds, IsSized, layout_of, Line, sum_of, LogSide, Setup}
 unfoldable use Rattle.model_core.specs.{lane}
-use Rattle.model_core.specs.LogSide.{LogSide}
-use Rattle.model_core.specs.Setup.{Setup}
 use Rattle.model_core.specs.declared.steps.AdvanceStep.{AdvanceStep}
 use Rattle.model_core.specs.declared.steps.UserStep.{UserStep}
 use Rattle.model_core.specs.declared.steps.CheckpointerStep.{CheckpointerStep}
@@ -13,7 +11,7 @@ use Rattle.model_core.specs.declared.steps.WriterStep.{WriterStep}
 use Rattle.model_core.specs.declared.steps.FlusherStep.{FlusherStep}
 use Rattle.model_core.specs.declared.steps.ReaderStep.{ReaderStep}
 use Rattle.model_core.specs.declared.steps.ReaderStep.TheVariants as reader_step
-use Rattle.model_logcore.specs.LogFacts.{LogGhost, InHand, count_of}
+use Rattle.model_logcore.specs.LogFacts.{LogGhost, InHand, count_of, LogFacts, sum_over_actors}
 use Rattle.model_core.specs.declared.steps.AdvanceStep.TheVariants as advance_step
 use Rattle.model_core.specs.declared.steps.UserStep.TheVariants as user_step
 use Rattle.model_core.specs.declared.steps.WriterStep.TheVariants as writer_step
@@ -21,10 +19,11 @@ use Rattle.model_core.specs.declared.steps.FlusherStep.TheVariants as flusher_st
 use Rattle.model_core.specs.declared.steps.CloserStep.TheVariants as closer_step
 use Rattle.model_core.specs.declared.steps.CleanerStep.TheVariants as cleaner_step
 use Rattle.model_core.specs.declared.steps.CheckpointerStep.TheVariants as checkpointer_step
-use Rattle.model_core.specs.Actors as actor
-use Rattle.model_base.specs.declared.limits.TheConstants.{BLOCK_SIZE, MAX_GROUP}
+use Rattle.model_core.specs.States as actor
+use Rattle.model_base.specs.declared.limits.TheConstants.{BLOCK_SIZE, MAX_GROUP, LSN_LIMIT}
 use Rattle.model_log.specs.declared.layout.TheConstants.{BLOCK_DATA}
 use Rattle.model_core.specs.declared.limits.TheConstants.{LOG_BUFFER, WRITTEN_LINKS}
+use Rattle.model_core.specs.declared.words.LinkBuffer.TheVariants as link_buffer
 
 -- each mark that a user has loaded is at most the word now
 pub record AreBelow (l : LoadedMarks) (ckpt write wtail flushed : ℕ) : Type 0 where
@@ -225,3 +224,31 @@ module _ (D : LogSide) (c : Setup) (m : SharedWords) (g : LogGhost) (p : D.Part)
   LogFits seat (actor.Cleaner v) = CleanerTold v
   LogFits seat (actor.Checkpointer t) = CheckpointerFits seat t
   LogFits seat (actor.Reader r) = ReaderFits seat r
+
+-- the bytes that an actor may still reserve
+abbrev pub lengths : List Line → ℕ
+lengths [] = 0
+lengths (l ∷ ls) = length l.bytes + lengths ls
+
+abbrev pub left_to_reserve : Actor → ℕ
+left_to_reserve (actor.User u) = lengths (drop (length u.starts) u.lines)
+left_to_reserve _ = 0
+
+-- the sum over all actors of what h gives their groups is that over the history
+abbrev pub Counted : List Actor → List Entry → Type 0
+Counted actors log = (h : Entry → ℕ) → sum_over_actors (λ a. sum_of h (entries a)) actors ≡ sum_of h log
+
+abbrev pub HasTaker : List Actor → ℕ → Type 0
+HasTaker actors seat = (a : Actor) × (get_elem? actors seat ≡ some a) × (holds a ≡ true)
+
+pub record LogHalf (D : LogSide) (c : Setup) (m : SharedWords) (g : LogGhost) (p : D.Part) (actors : List Actor) : Type 0 where
+  pub sized : IsSized (layout_of c) m
+  pub global : LogFacts D c m g p
+  pub each : (seat : ℕ) (a : Actor) → get_elem? actors seat ≡ some a → LogFits D c m g p seat a
+  pub turns : (seat : ℕ) (a : Actor) → get_elem? actors seat ≡ some a → holds a ≡ true → (m.device ≡ 1) × (seat ≡ g.holder)
+  pub taken : m.device ≡ 1 → HasTaker actors g.holder
+  pub advanced : m.wheld ≡ true → HasHolder link_buffer.Written actors
+  pub without_tail : (seat : ℕ) (a : Actor) → get_elem? actors seat ≡ some a → ChecksWithoutTail a
+  pub counted : Counted actors g.log
+  -- where all groups will end at most
+  pub room : lsn (m.sn + sum_over_actors left_to_reserve actors) < LSN_LIMIT

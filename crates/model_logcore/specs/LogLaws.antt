@@ -3,11 +3,10 @@ use Rattle.std.specs.Prelude.{List, [], cond, drop, false, length, take, true, â
 use Rattle.std.specs.List.{AllByRecursion}
 use lib.ListN.{get_elem?}
 use mathlib.Core.Option.{some}
-use Rattle.model_core.specs.{ceiling, end_of, Entry, floor, IsBound, IsLent, IsLogCode, IsText, lsn, stream, Tiles}
-use Rattle.model_core.specs.LogSide.{LogSide}
+use Rattle.model_core.specs.{ceiling, end_of, Entry, floor, IsBound, IsLent, IsLogCode, IsText, lsn, stream, Tiles, LogSide}
 use Rattle.model_base.specs.declared.limits.TheConstants.{BLOCK_SIZE, LSN_LIMIT}
 use Rattle.model_core.specs.declared.limits.TheConstants.{LOG_BUFFER}
-use Rattle.model_log.specs.Block.{block_view, data_of, is_block_at}
+use Rattle.model_log.specs.{block_view, data_of, is_block_at}
 use Rattle.model_log.specs.declared.layout.TheConstants.{BLOCK_DATA, BLOCK_HEADER}
 
 module _ (D : LogSide) (blocks base : â„•) (log : List Entry) where

@@ -1,8 +1,6 @@
 -- The conditions under which an actor asks for an Op.
 use Rattle.std.specs.Prelude.{false, true, ℕ, ◌≡◌}
-use Rattle.model_core.specs.{Actor, Blocks, holds, Lent, lent, lsn}
-use Rattle.model_core.specs.LogSide.{LogSide}
-use Rattle.model_core.specs.Setup.{Setup}
+use Rattle.model_core.specs.{Actor, Blocks, holds, Lent, lent, lsn, LogSide, Setup}
 use Rattle.model_core.specs.declared.ops.Op.{Op}
 use Rattle.model_logcore.specs.LogFacts.{LogGhost}
 use Rattle.model_logcore.specs.LogLaws.{CanCheckpoint, CanWrite}

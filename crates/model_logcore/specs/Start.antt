@@ -1,11 +1,8 @@
 -- What stands at the start of a run, from which the invariant holds.
 use Rattle.std.specs.Prelude.{[], length, slice_index, ℕ, ◌+◌, ◌<◌, ◌≡◌, ◌≤◌}
 use Rattle.model_base.specs.declared.limits.TheConstants.{MAX_GROUP}
-use Rattle.model_core.specs.{Actor, CheckpointerState, CleanerState, CloserState, FlusherState, line_at, lsn, ReaderState, new_checkpointer, new_cleaner, new_closer, new_flusher, new_reader, new_user, new_writer, UserState, WriterState}
-use Rattle.model_core.specs.LogSide.{LogSide}
-use Rattle.model_core.specs.Setup.{Setup}
-use Rattle.model_core.specs.StartWords.{start_checkpoint}
-use Rattle.model_core.specs.Actors as actor
+use Rattle.model_core.specs.{Actor, CheckpointerState, CleanerState, CloserState, FlusherState, line_at, lsn, ReaderState, new_checkpointer, new_cleaner, new_closer, new_flusher, new_reader, new_user, new_writer, UserState, WriterState, LogSide, Setup, start_checkpoint}
+use Rattle.model_core.specs.States as actor
 
 abbrev pub writer_start : Setup → WriterState
 writer_start c = new_writer c.blocks (lsn c.base)

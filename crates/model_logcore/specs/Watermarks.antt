@@ -4,14 +4,11 @@ use Rattle.std.specs.Prelude.{List, cond, length, slice_index, take, ℕ, ◌%�
 use lib.ListN.{get_elem?}
 use mathlib.Core.Option.{some}
 use Rattle.model_base.specs.declared.limits.TheConstants.{BLOCK_SIZE}
-use Rattle.model_core.specs.{Actor, ChecksWithoutTail, byte_at, byte_in, end_of, Entry, first_of, floor, group_bytes, group_end, IsBound, line_at, lsn, PageChange, read_place, SharedWords, Tiles, UserState, WriterState}
-use Rattle.model_core.specs.LogSide.{LogSide}
-use Rattle.model_core.specs.Setup.{Setup}
+use Rattle.model_core.specs.{Actor, ChecksWithoutTail, byte_at, byte_in, end_of, Entry, first_of, floor, group_bytes, group_end, IsBound, line_at, lsn, PageChange, read_place, SharedWords, Tiles, UserState, WriterState, LogSide, Setup}
 use Rattle.model_core.specs.declared.limits.TheConstants.{BUFFER_BLOCKS, LOG_BUFFER, WORD_LANES, WRITTEN_LINKS}
 use Rattle.model_log.specs.declared.layout.TheConstants.{BLOCK_DATA, BLOCK_HEADER}
 use Rattle.model_logcore.specs.LogFacts.{HasZeroLane, WrittenLink, count_of}
-use Rattle.model_logcore.specs.LogFits.{AreBelow}
-use Rattle.model_logcore.specs.LogHalf.{Counted}
+use Rattle.model_logcore.specs.LogFits.{AreBelow, Counted}
 use Rattle.model_logcore.specs.TailWord.{TailWordIs}
 use Rattle.model_core.specs.declared.steps.UserStep.{UserStep}
 use Rattle.model_core.specs.declared.steps.UserStep.TheVariants as user_step
@@ -22,7 +19,7 @@ use Rattle.model_core.specs.declared.steps.ReaderStep.TheVariants as reader_step
 use Rattle.model_core.specs.declared.steps.CloserStep.TheVariants as closer_step
 use Rattle.model_core.specs.declared.steps.CleanerStep.TheVariants as cleaner_step
 use Rattle.model_core.specs.declared.steps.CheckpointerStep.TheVariants as checkpointer_step
-use Rattle.model_core.specs.Actors as actor
+use Rattle.model_core.specs.States as actor
 
 -- How far a place of the stream has come: its group is reserved, its byte is copied, its group is linked.
 abbrev pub IsCopied : (ℕ → ℕ) → ℕ → Type 0

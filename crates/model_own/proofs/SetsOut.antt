@@ -1,8 +1,6 @@
 -- Where a user would wait and sets out on an errand, it stands at one of the steps for that.
 use Rattle.std.proofs.Common.{Bool, cond, eqb, false, length, refl, true, ℕ, ◌≡◌}
-use Rattle.model_core.specs.{advance_next, answered, can_link, changes, frees, has_passed, has_room, has_space}
-use Rattle.model_core.specs.{stays_put, tail_of, user_took, user_waits, UserState, with_link_room, with_mark}
-use Rattle.model_core.specs.{without_link_room}
+use Rattle.model_core.specs.{advance_next, answered, can_link, changes, frees, has_passed, has_room, has_space, stays_put, tail_of, user_took, user_waits, UserState, with_link_room, with_mark, without_link_room}
 use Rattle.model_core.specs.ActorProgram.{opposite}
 use Rattle.model_core.specs.declared.steps.UserStep.{UserStep}
 use Rattle.model_core.specs.declared.steps.UserStep.TheVariants as user_step

@@ -1,6 +1,6 @@
 -- At which steps a user may be on which part of an errand.
 use Rattle.std.specs.Prelude.{Bool, false, true, ◌≡◌}
-use Rattle.model_core.specs.States.{UserState}
+use Rattle.model_core.specs.{UserState}
 use Rattle.model_own.specs.declared.errand.ErrandStep.{ErrandStep}
 use Rattle.model_core.specs.declared.steps.UserStep.{UserStep}
 use Rattle.model_own.specs.declared.errand.ErrandStep.TheVariants as errand_step

@@ -1,42 +1,32 @@
 -- The turn of a user, the writer or the flusher, as one of a running store; and a user that ends by a failure.
-use Rattle.std.proofs.Common.{Bool, List, ap, arith, cond, eqb, eqb-true, false, inl, inr, refl, set, subst, true, ℕ}
-use Rattle.std.proofs.Common.{⊎_elim, ◌<◌, ◌∙◌, ◌≡◌}
+use Rattle.std.proofs.Common.{Bool, List, ap, arith, cond, eqb, eqb-true, false, inl, inr, refl, set, subst, true, ℕ, ⊎_elim, ◌<◌, ◌∙◌, ◌≡◌}
 use Rattle.std.proofs.lemmas.List.{set-set}
 use lib.ListN.{get_elem?}
 use mathlib.Core.Option.{some}
 use Rattle.model_core.proofs.Lists.{set_at}
-use Rattle.model_core.specs.{Actor, Batch, Blocks, checked, checked_of, DataServed, flusher_op, flusher_took, heard}
-use Rattle.model_core.specs.{is_checking, Lent, lent, Listed, LogServed, next, Nothing, old_of, own_op, own_took, SharedWords}
-use Rattle.model_core.specs.{user_op, user_program, user_took, UserState, writer_op, writer_took}
-use Rattle.model_core.specs.DataSide.{DataSide}
-use Rattle.model_core.specs.LogSide.{LogSide}
-use Rattle.model_core.specs.Setup.{Setup}
+use Rattle.model_core.specs.{Actor, Batch, Blocks, checked, checked_of, DataServed, flusher_op, flusher_took, heard, is_checking, Lent, lent, Listed, LogServed, next, Nothing, old_of, own_op, own_took, SharedWords, user_op, user_program, user_took, UserState, writer_op, writer_took, DataSide, LogSide, Setup}
 use Rattle.model_core.specs.declared.ops.Answer.{Answer}
 use Rattle.model_core.specs.declared.ops.Op.{Op}
 use Rattle.model_core.specs.declared.steps.UserStep.{UserStep}
 use Rattle.model_core.specs.declared.ops.Op.TheVariants as op
 use Rattle.model_core.specs.declared.words.Word.TheVariants as word
-use Rattle.model_core.specs.Actors as actor
+use Rattle.model_core.specs.States as actor
 use Rattle.model_logcore.specs.LogFacts.{LogGhost}
-use Rattle.model_logcore.specs.LogFits.{UserAt, UserFits}
+use Rattle.model_logcore.specs.{UserAt, UserFits}
 use Rattle.model_logcore.specs.LogLaws.{LogLaws}
-use Rattle.model_own.specs.OwnTurn.{all_actors}
-use Rattle.model_own.specs.OwnWrites.{LogWork, OwnUser, has_failed}
+use Rattle.model_own.specs.{all_actors, LogWork, OwnUser, has_failed, MayHelpAt}
 use Rattle.model_own.specs.declared.errand.ErrandStep.TheVariants as errand_step
 use Rattle.model_ownrun.proofs.Moves.{answer_to, Runs, RunsAfter, user_moves}
 use Rattle.model_ownrun.proofs.Restated.{restated}
-use Rattle.model_ownrun.proofs.Seats.{flusher_put, flusher_seat, flusher_there, user_put, user_there, writer_put}
-use Rattle.model_ownrun.proofs.Seats.{writer_seat, writer_there}
+use Rattle.model_ownrun.proofs.Seats.{flusher_put, flusher_seat, flusher_there, user_put, user_there, writer_put, writer_seat, writer_there}
 use Rattle.model_ownrun.proofs.UserAlike.{again_same}
-use Rattle.model_own.specs.ErrandFits.{MayHelpAt}
 use Rattle.model_pagecore.specs.{PageGhost, UserHasLatch}
 use Rattle.model_pagecore.specs.DataLaws.{DataLaws}
 use Rattle.model_pagecore.specs.PageHalf.{UserPageFits, UserPagesAt}
 use Rattle.model_running.proofs.Archiving.{IsNoReader, others_append_not, served_none}
 use Rattle.model_running.proofs.BothKeep.{keeps_both}
 use Rattle.model_running.proofs.ReadStays.{IsFilled}
-use Rattle.model_running.specs.RunningStore.{BothHalves}
-use Rattle.model_running.specs.UsersClosed.{HandIsClosed, UserClosed}
+use Rattle.model_running.specs.Watermarks.{BothHalves, HandIsClosed, UserClosed}
 
 data_kept : (E : DataSide) (d : E.Part) (l : Lent) → DataServed E d l (op.Load word.Failed) 0 d
 data_kept E d (Batch b) = refl

@@ -1,19 +1,11 @@
 -- The errand of a user that is alone: it finds the log part free, and brings WRITE, and FLUSHED where it is to, up to
 -- all groups that are linked.
-use Rattle.std.proofs.Common.{Bool, List, [], ap, arith, cond, eq-eqb, eqb, eqb-true, false, inl, inr, leb-true, length}
-use Rattle.std.proofs.Common.{ltb, refl, subst, sym, true, ℕ, ◌%◌, ◌*◌, ◌+◌, ◌∙◌, ◌∷◌, ◌≡◌, ◌≤◌}
+use Rattle.std.proofs.Common.{Bool, List, [], ap, arith, cond, eq-eqb, eqb, eqb-true, false, inl, inr, leb-true, length, ltb, refl, subst, sym, true, ℕ, ◌%◌, ◌*◌, ◌+◌, ◌∙◌, ◌∷◌, ◌≡◌, ◌≤◌}
 use Rattle.std.proofs.lemmas.Bool.{leb-false, ltb-false}
 use Rattle.std.specs.Prelude.{nat_le, slice_index}
 use Rattle.model_core.proofs.Lsns.{lsn_le}
 use Rattle.model_core.proofs.Tails.{held_in, tail_in}
-use Rattle.model_core.specs.Holding.{user_holds_tail, writer_holds_tail}
-use Rattle.model_core.specs.{Advance, ceiling, flusher_op, flusher_took, FlusherState, has_log_space, has_whole_word}
-use Rattle.model_core.specs.{is_held, left_in_word, Listed, LogServed, lsn, Nothing, old_of, read_place, shared_left}
-use Rattle.model_core.specs.{SharedWords, stands_outside, tail_of, tail_word, UserState, word_end, writer_op}
-use Rattle.model_core.specs.{writer_took, WriterState}
-use Rattle.model_core.specs.DataSide.{DataSide}
-use Rattle.model_core.specs.LogSide.{LogSide}
-use Rattle.model_core.specs.Setup.{Setup}
+use Rattle.model_core.specs.{user_holds_tail, writer_holds_tail, Advance, ceiling, flusher_op, flusher_took, FlusherState, has_log_space, has_whole_word, is_held, left_in_word, Listed, LogServed, lsn, Nothing, old_of, read_place, shared_left, SharedWords, stands_outside, tail_of, tail_word, UserState, word_end, writer_op, writer_took, WriterState, DataSide, LogSide, Setup}
 use Rattle.model_core.specs.declared.ops.Answer.{Answer}
 use Rattle.model_core.specs.declared.ops.Op.{Op}
 use Rattle.model_core.specs.declared.steps.FlusherStep.{FlusherStep}
@@ -28,20 +20,16 @@ use Rattle.model_core.specs.declared.steps.FlusherStep.TheVariants as flusher_st
 use Rattle.model_core.specs.declared.steps.UserStep.TheVariants as user_step
 use Rattle.model_core.specs.declared.steps.WriterStep.TheVariants as writer_step
 use Rattle.model_core.specs.declared.words.LinkBuffer.TheVariants as link_buffer
-use Rattle.model_core.specs.Actors as actor
-use Rattle.model_logcore.specs.LogFits.{FlusherAt, FlusherFits, UserFits, WriterAt, WriterFits}
-use Rattle.model_logcore.specs.LogHalf.{left_to_reserve}
+use Rattle.model_core.specs.States as actor
+use Rattle.model_logcore.specs.{FlusherAt, FlusherFits, UserFits, WriterAt, WriterFits, left_to_reserve}
 use Rattle.model_logcore.specs.LogLaws.{AfterSync, LogLaws}
-use Rattle.model_own.specs.OwnTurn.{all_actors}
-use Rattle.model_own.specs.OwnWrites.{LogWork, OwnUser, after_flusher, after_writer, flusher_from, flushes_at}
-use Rattle.model_own.specs.OwnWrites.{has_failed, written}
+use Rattle.model_own.specs.{all_actors, LogWork, OwnUser, after_flusher, after_writer, flusher_from, flushes_at, has_failed, written}
 use Rattle.model_own.specs.declared.errand.ErrandStep.{ErrandStep}
 use Rattle.model_own.specs.declared.errand.ErrandStep.TheVariants as errand_step
 use Rattle.model_ownrun.proofs.Linked.{Below, far_enough, no_link, out_below, tail_free}
 use Rattle.model_ownrun.proofs.Moves.{answer_to, Runs}
 use Rattle.model_ownrun.proofs.WriterStates.{with_advance, with_cleared, with_room, with_word, with_write}
-use Rattle.model_ownrun.specs.Alone.{Alone, ErrandAlone, FlusherAlone, OutAt, UserAlone, WriterAlone, top}
-use Rattle.model_ownrun.specs.OwnRunning.{FlushesAt, WritesAt}
+use Rattle.model_ownrun.specs.OwnRunning.{Alone, ErrandAlone, FlusherAlone, OutAt, UserAlone, WriterAlone, top, FlushesAt, WritesAt}
 
 -- at such a step the user holds no tail, and nothing more is known
 out_free : (s : UserStep) → OutAt s → user_holds_tail link_buffer.Written s ≡ false

@@ -1,17 +1,11 @@
 -- With one user that writes for itself, the log alone and no other actor, no turn is idle, and that stays so.
-use Rattle.std.proofs.Common.{Bool, List, [], ap, arith, cond, eqb, false, inl, inr, length, refl, set, subst, suc, sym}
-use Rattle.std.proofs.Common.{true, zero, ℕ, ⊎_elim, ◌+◌, ◌-◌, ◌∙◌, ◌∷◌, ◌≡◌, ◌≤◌}
+use Rattle.std.proofs.Common.{Bool, List, [], ap, arith, cond, eqb, false, inl, inr, length, refl, set, subst, suc, sym, true, zero, ℕ, ⊎_elim, ◌+◌, ◌-◌, ◌∙◌, ◌∷◌, ◌≡◌, ◌≤◌}
 use Rattle.std.proofs.lemmas.Bool.{eqb-false}
 use Rattle.std.specs.Prelude.{None}
 use lib.ListN.{get_elem?}
 use mathlib.Core.Option.{some, some-injective, some-ne-none}
 use Rattle.model_core.specs.ActorProgram.{opposite}
-use Rattle.model_core.specs.Holding.{writer_holds_tail}
-use Rattle.model_core.specs.{Actor, flusher_holds, heard, holds, Listed, LogServed, lsn, old_of, shared_left}
-use Rattle.model_core.specs.{SharedWords, user_ending, user_op, user_took, user_waits, UserState, writer_holds}
-use Rattle.model_core.specs.DataSide.{DataSide}
-use Rattle.model_core.specs.LogSide.{LogSide}
-use Rattle.model_core.specs.Setup.{Setup}
+use Rattle.model_core.specs.{writer_holds_tail, Actor, flusher_holds, heard, holds, Listed, LogServed, lsn, old_of, shared_left, SharedWords, user_ending, user_op, user_took, user_waits, UserState, writer_holds, DataSide, LogSide, Setup}
 use Rattle.model_core.specs.declared.ops.Answer.{Answer}
 use Rattle.model_core.specs.declared.ops.Op.{Op}
 use Rattle.model_core.specs.declared.ops.Step.{Step}
@@ -27,13 +21,10 @@ use Rattle.model_core.specs.declared.steps.UserStep.TheVariants as user_step
 use Rattle.model_core.specs.declared.steps.WriterStep.TheVariants as writer_step
 use Rattle.model_core.specs.declared.words.LinkBuffer.TheVariants as link_buffer
 use Rattle.model_core.specs.declared.words.Word.TheVariants as word
-use Rattle.model_core.specs.Actors as actor
+use Rattle.model_core.specs.States as actor
 use Rattle.model_logcore.specs.LogLaws.{LogLaws}
-use Rattle.model_own.specs.OwnTurn.{OtherTurn, OwnCore, OwnTurn, UserTurn, all_actors}
-use Rattle.model_own.specs.OwnWrites.{LogWork, OwnUser, errand_lends, errand_op, errand_took, errand_waits}
-use Rattle.model_own.specs.ErrandFits.{has_work}
-use Rattle.model_own.specs.OwnWrites.{helps_at, keeps_helped, loads_again, own_checked, own_goes_on, own_lends}
-use Rattle.model_own.specs.OwnWrites.{own_next, own_step_of, sets_out, taken_up}
+use Rattle.model_own.specs.{OtherTurn, OwnCore, OwnTurn, UserTurn, all_actors, LogWork, OwnUser, errand_lends, errand_op, errand_took, errand_waits, helps_at, keeps_helped, loads_again, own_checked, own_goes_on, own_lends, own_next, own_step_of, sets_out, taken_up, has_work}
+use Rattle.model_own.specs.ErrandFits.{ErrandFits}
 use Rattle.model_own.specs.declared.errand.ErrandStep.{ErrandStep}
 use Rattle.model_own.specs.declared.errand.ErrandStep.TheVariants as errand_step
 use Rattle.model_ownrun.proofs.AloneErrand.{flush_goes, on, out_knows, write_goes}
@@ -41,12 +32,9 @@ use Rattle.model_ownrun.proofs.AloneUser.{Goes, user_goes}
 use Rattle.model_ownrun.proofs.Errands.{in_hand}
 use Rattle.model_ownrun.proofs.Moves.{answer_to, Runs}
 use Rattle.model_ownrun.proofs.OwnKeeps.{answered_by_name, own_user_turn, shared_is}
-use Rattle.model_ownrun.specs.Alone.{Alone, AloneRunning, ErrandAlone, HasHelped, OutAt, UserAlone, WriterAlone, top}
-use Rattle.model_own.specs.ErrandFits.{ErrandFits}
-use Rattle.model_ownrun.specs.OwnRunning.{Errands, IsFlusherAtRest, IsWriterAtRest, SomebodyAtWork}
-use Rattle.model_ownrun.specs.OwnRunning.{WorkFits}
+use Rattle.model_ownrun.specs.OwnRunning.{Alone, AloneRunning, ErrandAlone, HasHelped, OutAt, UserAlone, WriterAlone, top, Errands, IsFlusherAtRest, IsWriterAtRest, SomebodyAtWork, WorkFits}
 use Rattle.model_pagecore.specs.DataLaws.{DataLaws}
-use Rattle.model_running.specs.RunningStore.{BothHalves}
+use Rattle.model_running.specs.Watermarks.{BothHalves}
 
 -- how a step ends that doesn't wait
 ends_moved : (code : ℕ) (s : UserStep) → user_ending code s ≡ step.Idle → ⊥

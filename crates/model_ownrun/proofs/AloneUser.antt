@@ -1,22 +1,13 @@
 -- The own steps of a user that is alone: where it would wait, it sets out on an errand.
-use Rattle.std.proofs.Common.{Bool, List, [], ap, arith, cond, drop, eq-eqb, eqb, eqb-true, false, inl, inr, length}
-use Rattle.std.proofs.Common.{length-append, ltb, refl, subst, sym, true, ℕ, ◌%◌, ◌*◌, ◌++◌, ◌+◌, ◌/◌, ◌∙◌, ◌∷◌, ◌≡◌}
-use Rattle.std.proofs.Common.{◌≤◌, ◌⊎◌}
+use Rattle.std.proofs.Common.{Bool, List, [], ap, arith, cond, drop, eq-eqb, eqb, eqb-true, false, inl, inr, length, length-append, ltb, refl, subst, sym, true, ℕ, ◌%◌, ◌*◌, ◌++◌, ◌+◌, ◌/◌, ◌∙◌, ◌∷◌, ◌≡◌, ◌≤◌, ◌⊎◌}
 use Rattle.std.proofs.lemmas.Bool.{leb-false, ltb-false}
 use Rattle.std.specs.Prelude.{nat_lt, slice_index}
 use Rattle.model_core.proofs.Lsns.{floor_grows, lsn_le, lsn_near}
 use Rattle.model_core.proofs.Tails.{held_in, tail_in}
-use Rattle.model_core.specs.{Advance, answered, can_link, changes, floor, group_bytes, group_end, has_passed, has_room}
-use Rattle.model_core.specs.{has_space, heard, holds_tail, is_held, Line, line_at, Listed, LoadedMarks, lsn, mode}
-use Rattle.model_core.specs.{next_count, PageChange, shared_left, SharedWords, tail_of, tail_word}
-use Rattle.model_core.specs.{user_op, user_took, user_waits, UserState, with_link_room, without_link_room}
+use Rattle.model_core.specs.{Advance, answered, can_link, changes, floor, group_bytes, group_end, has_passed, has_room, has_space, heard, holds_tail, is_held, Line, line_at, Listed, LoadedMarks, lsn, mode, next_count, PageChange, shared_left, SharedWords, tail_of, tail_word, user_op, user_took, user_waits, UserState, with_link_room, without_link_room, user_holds_tail, DataSide, LogSide, Setup}
 use Rattle.model_core.specs.ActorProgram.{opposite}
-use Rattle.model_core.specs.Holding.{user_holds_tail}
 use Rattle.model_core.specs.declared.ops.Op.TheVariants as op
 use Rattle.model_core.specs.declared.words.Word.TheVariants as word
-use Rattle.model_core.specs.DataSide.{DataSide}
-use Rattle.model_core.specs.LogSide.{LogSide}
-use Rattle.model_core.specs.Setup.{Setup}
 use Rattle.model_core.specs.declared.ops.Answer.{Answer}
 use Rattle.model_core.specs.declared.steps.UserStep.{UserStep}
 use Rattle.model_base.specs.declared.limits.TheConstants.{BLOCK_SIZE}
@@ -25,15 +16,13 @@ use Rattle.model_core.specs.declared.limits.TheConstants.{ADVANCE_PLACES, FREE_M
 use Rattle.model_core.specs.declared.steps.AdvanceStep.TheVariants as advance_step
 use Rattle.model_core.specs.declared.steps.UserStep.TheVariants as user_step
 use Rattle.model_core.specs.declared.words.LinkBuffer.TheVariants as link_buffer
-use Rattle.model_core.specs.Actors as actor
+use Rattle.model_core.specs.States as actor
 use Rattle.model_logcore.proofs.UserGroups.{lengths_step}
-use Rattle.model_logcore.specs.LogFits.{UserAt, UserFits}
-use Rattle.model_logcore.specs.LogHalf.{left_to_reserve, lengths}
-use Rattle.model_own.specs.OwnTurn.{all_actors}
-use Rattle.model_own.specs.OwnWrites.{LogWork, OwnUser, helps_at, keeps_helped}
+use Rattle.model_logcore.specs.{UserAt, UserFits, left_to_reserve, lengths}
+use Rattle.model_own.specs.{all_actors, LogWork, OwnUser, helps_at, keeps_helped}
 use Rattle.model_ownrun.proofs.Linked.{Below, copied_below, far_enough, no_link, tail_free}
 use Rattle.model_ownrun.proofs.Moves.{answer_to, Runs}
-use Rattle.model_ownrun.specs.Alone.{Alone, HasHelped, OutAt, UserAlone}
+use Rattle.model_ownrun.specs.OwnRunning.{Alone, HasHelped, OutAt, UserAlone}
 use Rattle.model_pagecore.specs.PageHalf.{UserPageFits, UserPagesAt}
 
 module _ (D : LogSide) (E : DataSide) (c : Setup) (m : SharedWords) (ls : ℕ → List Listed) (p : D.Part)

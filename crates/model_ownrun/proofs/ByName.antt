@@ -1,12 +1,7 @@
 -- What an Op leaves of the list of words, of the flush lists and as its answer is what it leaves of the words by name.
 use Rattle.std.proofs.Common.{List, ap, arith, cond, eqb, refl, ℕ, ◌%◌, ◌+◌, ◌<◌, ◌∙◌, ◌≡◌}
 use Rattle.std.specs.Prelude.{slice_index}
-use Rattle.model_core.specs.{Actor, answer_of, appended, flat, layout_of, list_word, Listed, lists_left, OpWords, shared_left}
-use Rattle.model_core.specs.{without}
-use Rattle.model_core.specs.{words_left}
-use Rattle.model_core.specs.DataSide.{DataSide}
-use Rattle.model_core.specs.LogSide.{LogSide}
-use Rattle.model_core.specs.Setup.{Setup}
+use Rattle.model_core.specs.{Actor, answer_of, appended, flat, layout_of, list_word, Listed, lists_left, OpWords, shared_left, without, words_left, DataSide, LogSide, Setup}
 use Rattle.model_core.specs.declared.ops.Answer.{Answer}
 use Rattle.model_core.specs.declared.ops.Op.{Op}
 use Rattle.model_core.specs.declared.ops.Op.TheVariants as op
@@ -14,7 +9,7 @@ use Rattle.model_core.specs.declared.words.Layout.{Layout}
 use Rattle.model_core.specs.declared.words.Word.TheVariants as word
 use Rattle.model_ownrun.proofs.Moves.{answer_to, lists_after}
 use Rattle.model_running.proofs.FlatWords.{flat_answer, flat_left, flat_read}
-use Rattle.model_running.specs.RunningStore.{RunningStore}
+use Rattle.model_running.specs.Watermarks.{RunningStore}
 
 -- the flush lists after an Op depend on the turn words of the lists alone
 lists_same : (ls : ℕ → List Listed) (first second : ℕ → ℕ) → ((i : ℕ) → i < 4 → first i ≡ second i) → (o : Op)

@@ -1,14 +1,9 @@
 -- Who has the log's work in hand, after an Op.
-use Rattle.std.proofs.Common.{Bool, List, ap, arith, false, inl, inr, length, refl, set, subst, sym, true, ℕ}
-use Rattle.std.proofs.Common.{⊎_elim, ◌+◌, ◌∙◌, ◌≡◌, ◌≢◌, ◌≤◌, ◌⊎◌}
+use Rattle.std.proofs.Common.{Bool, List, ap, arith, false, inl, inr, length, refl, set, subst, sym, true, ℕ, ⊎_elim, ◌+◌, ◌∙◌, ◌≡◌, ◌≢◌, ◌≤◌, ◌⊎◌}
 use lib.ListN.{get_elem?}
 use mathlib.Core.Option.{some, some-injective}
 use Rattle.model_core.proofs.Lists.{at_set, set_at, set_else}
-use Rattle.model_core.specs.{Actor, Batch, Blocks, flusher_holds, holds, Lent, lent, Listed, LogServed, next, Nothing}
-use Rattle.model_core.specs.{Room, SharedWords, writer_holds}
-use Rattle.model_core.specs.DataSide.{DataSide}
-use Rattle.model_core.specs.LogSide.{LogSide}
-use Rattle.model_core.specs.Setup.{Setup}
+use Rattle.model_core.specs.{Actor, Batch, Blocks, flusher_holds, holds, Lent, lent, Listed, LogServed, next, Nothing, Room, SharedWords, writer_holds, DataSide, LogSide, Setup}
 use Rattle.model_core.specs.declared.ops.Op.{Op}
 use Rattle.model_core.specs.declared.steps.FlusherStep.{FlusherStep}
 use Rattle.model_core.specs.declared.steps.WriterStep.{WriterStep}
@@ -16,21 +11,17 @@ use Rattle.model_core.specs.declared.ops.Op.TheVariants as op
 use Rattle.model_core.specs.declared.steps.AdvanceStep.TheVariants as advance_step
 use Rattle.model_core.specs.declared.steps.FlusherStep.TheVariants as flusher_step
 use Rattle.model_core.specs.declared.steps.WriterStep.TheVariants as writer_step
-use Rattle.model_core.specs.Actors as actor
+use Rattle.model_core.specs.States as actor
 use Rattle.model_logcore.specs.LogFacts.{LogGhost}
 use Rattle.model_logcore.specs.LogLaws.{LogLaws}
 use Rattle.model_logcore.specs.Ready.{CanLend, Ready}
-use Rattle.model_own.specs.OwnTurn.{all_actors}
-use Rattle.model_own.specs.OwnWrites.{LogWork, OwnUser}
-use Rattle.model_own.specs.ErrandFits.{has_work}
+use Rattle.model_own.specs.{all_actors, LogWork, OwnUser, has_work}
+use Rattle.model_own.specs.ErrandFits.{ErrandFits}
 use Rattle.model_own.specs.declared.errand.ErrandStep.{ErrandStep}
 use Rattle.model_own.specs.declared.errand.ErrandStep.TheVariants as errand_step
 use Rattle.model_ownrun.proofs.Moves.{Runs}
-use Rattle.model_ownrun.proofs.Seats.{flusher_seat, flusher_seat_is, flusher_there, writer_seat, writer_seat_is}
-use Rattle.model_ownrun.proofs.Seats.{writer_there}
-use Rattle.model_own.specs.ErrandFits.{ErrandFits}
-use Rattle.model_ownrun.specs.OwnRunning.{Errands, FlushesAt, IsFlusherAtRest, IsWriterAtRest}
-use Rattle.model_ownrun.specs.OwnRunning.{NobodyAtWork, SomebodyAtWork, WorkAt, WorkFits, WritesAt}
+use Rattle.model_ownrun.proofs.Seats.{flusher_seat, flusher_seat_is, flusher_there, writer_seat, writer_seat_is, writer_there}
+use Rattle.model_ownrun.specs.OwnRunning.{Errands, FlushesAt, IsFlusherAtRest, IsWriterAtRest, NobodyAtWork, SomebodyAtWork, WorkAt, WorkFits, WritesAt}
 use Rattle.model_pagecore.specs.DataLaws.{DataLaws}
 use Rattle.model_running.proofs.BothReady.{log_ready}
 

@@ -4,11 +4,7 @@ use Rattle.std.proofs.lemmas.Bool.{eqb-false}
 use lib.ListN.{get_elem?}
 use mathlib.Core.Option.{some}
 use Rattle.model_core.proofs.Lists.{set_again}
-use Rattle.model_core.specs.{Actor, DataServed, flusher_op, flusher_took, FlusherState, Listed, LogServed, Nothing}
-use Rattle.model_core.specs.{shared_left, SharedWords}
-use Rattle.model_core.specs.DataSide.{DataSide}
-use Rattle.model_core.specs.LogSide.{LogSide}
-use Rattle.model_core.specs.Setup.{Setup}
+use Rattle.model_core.specs.{Actor, DataServed, flusher_op, flusher_took, FlusherState, Listed, LogServed, Nothing, shared_left, SharedWords, DataSide, LogSide, Setup}
 use Rattle.model_core.specs.declared.ops.Answer.{Answer}
 use Rattle.model_core.specs.declared.ops.Op.{Op}
 use Rattle.model_core.specs.declared.steps.FlusherStep.{FlusherStep}
@@ -17,18 +13,16 @@ use Rattle.model_core.specs.declared.ops.Answer.TheVariants as answer
 use Rattle.model_core.specs.declared.steps.AdvanceStep.TheVariants as advance_step
 use Rattle.model_core.specs.declared.steps.FlusherStep.TheVariants as flusher_step
 use Rattle.model_core.specs.declared.steps.WriterStep.TheVariants as writer_step
-use Rattle.model_core.specs.Actors as actor
-use Rattle.model_logcore.specs.LogFits.{FlusherAt, FlusherFits}
+use Rattle.model_core.specs.States as actor
+use Rattle.model_logcore.specs.{FlusherAt, FlusherFits}
 use Rattle.model_logcore.specs.LogLaws.{AfterSync, LogLaws}
-use Rattle.model_own.specs.OwnTurn.{all_actors}
-use Rattle.model_own.specs.OwnWrites.{LogWork, OwnUser, after_flusher}
+use Rattle.model_own.specs.{all_actors, LogWork, OwnUser, after_flusher, MayHelpAt}
 use Rattle.model_own.specs.declared.errand.ErrandStep.{ErrandStep}
 use Rattle.model_own.specs.declared.errand.ErrandStep.TheVariants as errand_step
 use Rattle.model_ownrun.proofs.ActorSteps.{flusher_goes_on, user_fails}
 use Rattle.model_ownrun.proofs.Moves.{answer_to, lists_after, Runs}
 use Rattle.model_ownrun.proofs.Seats.{flusher_seat, flusher_there}
 use Rattle.model_ownrun.proofs.WriterPart.{Leaves, goes_to}
-use Rattle.model_own.specs.ErrandFits.{MayHelpAt}
 use Rattle.model_own.specs.ErrandFits.{ErrandFits}
 use Rattle.model_ownrun.specs.OwnRunning.{FlushesAt, IsWriterAtRest, WorkFits}
 use Rattle.model_pagecore.specs.DataLaws.{DataLaws}

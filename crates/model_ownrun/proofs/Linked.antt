@@ -1,6 +1,5 @@
 -- With one user all groups below its own are linked, and so an advance follows all their links.
-use Rattle.std.proofs.Common.{Bool, List, [], ap, arith, cond, eqb, eqb-true, false, length, refl, subst, suc, sym}
-use Rattle.std.proofs.Common.{true, zero, ℕ, ⊎_elim, ◌%◌, ◌+◌, ◌<◌, ◌∙◌, ◌∷◌, ◌≡◌, ◌≤◌}
+use Rattle.std.proofs.Common.{Bool, List, [], ap, arith, cond, eqb, eqb-true, false, length, refl, subst, suc, sym, true, zero, ℕ, ⊎_elim, ◌%◌, ◌+◌, ◌<◌, ◌∙◌, ◌∷◌, ◌≡◌, ◌≤◌}
 use Rattle.std.proofs.lemmas.Bool.{eqb-false}
 use Rattle.std.specs.Prelude.{slice_index}
 use lib.ListN.{get_elem?}
@@ -8,21 +7,17 @@ use mathlib.Core.Option.{some, some-injective, some-ne-none}
 use native.Mathlib.Decide.{dec_le, ℕ_discrete}
 use Rattle.model_core.proofs.Groups.{bound_end, tiles_at}
 use Rattle.model_core.proofs.Lsns.{lsn_le}
-use Rattle.model_core.specs.{Actor, Advance, end_of, entries_from, Entry, entry, FlusherState, group_end, holds_tail}
-use Rattle.model_core.specs.{IsBound, Line, line, lsn, SharedWords, sum_of, Tiles, UserState, WriterState}
-use Rattle.model_core.specs.LogSide.{LogSide}
-use Rattle.model_core.specs.Setup.{Setup}
+use Rattle.model_core.specs.{Actor, Advance, end_of, entries_from, Entry, entry, FlusherState, group_end, holds_tail, IsBound, Line, line, lsn, SharedWords, sum_of, Tiles, UserState, WriterState, LogSide, Setup}
 use Rattle.model_core.specs.declared.steps.UserStep.{UserStep}
 use Rattle.model_core.specs.declared.limits.TheConstants.{WRITTEN_LINKS}
 use Rattle.model_core.specs.declared.steps.UserStep.TheVariants as user_step
 use Rattle.model_core.specs.declared.words.LinkBuffer.TheVariants as link_buffer
-use Rattle.model_core.specs.Actors as actor
+use Rattle.model_core.specs.States as actor
 use Rattle.model_logcore.proofs.AdvanceSteps.{link_here}
 use Rattle.model_logcore.proofs.UserGroups.{count_front, rank_same}
 use Rattle.model_logcore.specs.LogFacts.{LogGhost, count_of}
-use Rattle.model_logcore.specs.LogFits.{HasLinked, HoldsWtail, UserAt, UserFits}
-use Rattle.model_logcore.specs.LogHalf.{LogHalf}
-use Rattle.model_ownrun.specs.Alone.{OutAt, top}
+use Rattle.model_logcore.specs.{HasLinked, HoldsWtail, UserAt, UserFits, LogHalf}
+use Rattle.model_ownrun.specs.OwnRunning.{OutAt, top}
 
 -- a group starts at each boundary below the end
 bound_entry : (log : List Entry) (s n b : ℕ) → Tiles s log n → IsBound s log b → b < n

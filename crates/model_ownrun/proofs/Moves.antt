@@ -4,13 +4,7 @@ use Rattle.std.proofs.Common.{Bool, List, ap, arith, cond, false, refl, set, sub
 use Rattle.std.specs.Prelude.{nat_lt, slice_index}
 use lib.ListN.{get_elem?}
 use mathlib.Core.Option.{some}
-use Rattle.model_core.specs.{Actor, Advance, advance_op, flusher_holds, FlusherState, Lent, Listed, lists_left}
-use Rattle.model_core.specs.{LogServed, shared_answer, shared_left}
-use Rattle.model_core.specs.{SharedWords, UserState, writer_holds, WriterState}
-use Rattle.model_core.specs.Holding.{writer_holds_tail}
-use Rattle.model_core.specs.DataSide.{DataSide}
-use Rattle.model_core.specs.LogSide.{LogSide}
-use Rattle.model_core.specs.Setup.{Setup}
+use Rattle.model_core.specs.{Actor, Advance, advance_op, flusher_holds, FlusherState, Lent, Listed, lists_left, LogServed, shared_answer, shared_left, SharedWords, UserState, writer_holds, WriterState, writer_holds_tail, DataSide, LogSide, Setup}
 use Rattle.model_core.specs.declared.ops.Answer.{Answer}
 use Rattle.model_core.specs.declared.ops.Op.{Op}
 use Rattle.model_core.specs.declared.steps.AdvanceStep.{AdvanceStep}
@@ -22,19 +16,17 @@ use Rattle.model_core.specs.declared.steps.AdvanceStep.TheVariants as advance_st
 use Rattle.model_core.specs.declared.steps.FlusherStep.TheVariants as flusher_step
 use Rattle.model_core.specs.declared.steps.WriterStep.TheVariants as writer_step
 use Rattle.model_core.specs.declared.words.LinkBuffer.TheVariants as link_buffer
-use Rattle.model_core.specs.Actors as actor
+use Rattle.model_core.specs.States as actor
 use Rattle.model_logcore.proofs.WriterSteps.{staged}
 use Rattle.model_logcore.specs.LogFacts.{LogGhost}
-use Rattle.model_logcore.specs.LogFits.{FlusherAt, FlusherFits, WriterAt, WriterFits}
-use Rattle.model_own.specs.OwnTurn.{all_actors}
-use Rattle.model_own.specs.OwnWrites.{LogWork, OwnUser, flusher_from, given_back, rested_writer, taken_up}
+use Rattle.model_logcore.specs.{FlusherAt, FlusherFits, WriterAt, WriterFits}
+use Rattle.model_own.specs.{all_actors, LogWork, OwnUser, flusher_from, given_back, rested_writer, taken_up}
 use Rattle.model_own.specs.declared.errand.ErrandStep.{ErrandStep}
 use Rattle.model_ownrun.proofs.Restated.{IsAlike, given_by, restated, taken_by}
-use Rattle.model_ownrun.proofs.Seats.{flusher_put, flusher_seat, flusher_there, user_put, user_there, writer_put}
-use Rattle.model_ownrun.proofs.Seats.{writer_seat, writer_there}
+use Rattle.model_ownrun.proofs.Seats.{flusher_put, flusher_seat, flusher_there, user_put, user_there, writer_put, writer_seat, writer_there}
 use Rattle.model_ownrun.proofs.UserAlike.{Again, user_alike}
 use Rattle.model_pagecore.specs.{PageGhost}
-use Rattle.model_running.specs.RunningStore.{BothHalves}
+use Rattle.model_running.specs.Watermarks.{BothHalves}
 
 -- the flush lists after an Op, and the answer to it, where a device call leaves the log part so
 abbrev pub lists_after : SharedWords → (ℕ → List Listed) → Op → ℕ → List Listed

@@ -1,14 +1,9 @@
 -- Each turn of a store whose users write for themselves keeps what holds between any two.
-use Rattle.std.proofs.Common.{Bool, List, ap, arith, cond, eqb, eqb-true, false, refl, set, subst, sym, true, ℕ, ⊎_elim}
-use Rattle.std.proofs.Common.{◌+◌, ◌∙◌, ◌≡◌, ◌≢◌}
+use Rattle.std.proofs.Common.{Bool, List, ap, arith, cond, eqb, eqb-true, false, refl, set, subst, sym, true, ℕ, ⊎_elim, ◌+◌, ◌∙◌, ◌≡◌, ◌≢◌}
 use Rattle.std.specs.Prelude.{None}
 use lib.ListN.{get_elem?}
 use mathlib.Core.Option.{some}
-use Rattle.model_core.specs.{Actor, DataServed, filled, flat, layout_of, flusher_op, lent, Listed, LogServed, next, old_of}
-use Rattle.model_core.specs.{OpWords, shared_left, SharedWords, user_op, writer_op}
-use Rattle.model_core.specs.DataSide.{DataSide}
-use Rattle.model_core.specs.LogSide.{LogSide}
-use Rattle.model_core.specs.Setup.{Setup}
+use Rattle.model_core.specs.{Actor, DataServed, filled, flat, layout_of, flusher_op, lent, Listed, LogServed, next, old_of, OpWords, shared_left, SharedWords, user_op, writer_op, DataSide, LogSide, Setup}
 use Rattle.model_core.specs.declared.ops.Answer.{Answer}
 use Rattle.model_core.specs.declared.ops.Op.{Op}
 use Rattle.model_core.specs.declared.ops.Step.{Step}
@@ -19,12 +14,10 @@ use Rattle.model_core.specs.declared.steps.AdvanceStep.TheVariants as advance_st
 use Rattle.model_core.specs.declared.steps.FlusherStep.TheVariants as flusher_step
 use Rattle.model_core.specs.declared.steps.WriterStep.TheVariants as writer_step
 use Rattle.model_core.specs.declared.words.Word.TheVariants as word
-use Rattle.model_core.specs.Actors as actor
+use Rattle.model_core.specs.States as actor
 use Rattle.model_logcore.specs.LogLaws.{LogLaws}
-use Rattle.model_own.specs.OwnTurn.{OtherTurn, OwnCore, OwnTurn, UserTurn, all_actors, with_writer}
-use Rattle.model_own.specs.OwnWrites.{LogWork, OwnUser, errand_lends, errand_op, errand_took}
-use Rattle.model_own.specs.ErrandFits.{has_work}
-use Rattle.model_own.specs.OwnWrites.{own_checked, own_goes_on, own_lends, own_next, taken_up, waiting}
+use Rattle.model_own.specs.{OtherTurn, OwnCore, OwnTurn, UserTurn, all_actors, with_writer, LogWork, OwnUser, errand_lends, errand_op, errand_took, own_checked, own_goes_on, own_lends, own_next, taken_up, waiting, has_work}
+use Rattle.model_own.specs.ErrandFits.{ErrandFits}
 use Rattle.model_own.specs.declared.errand.ErrandStep.{ErrandStep}
 use Rattle.model_own.specs.declared.errand.ErrandStep.TheVariants as errand_step
 use Rattle.model_ownrun.proofs.ByName.{answer_by_name, lists_by_name, words_by_name}
@@ -32,16 +25,13 @@ use Rattle.model_ownrun.proofs.Errands.{aside, in_hand, mine, nobody_has, other_
 use Rattle.model_ownrun.proofs.FlusherPart.{flush_by}
 use Rattle.model_ownrun.proofs.Moves.{answer_to, lists_after, Runs}
 use Rattle.model_ownrun.proofs.Seats.{flusher_seat, flusher_there, user_there, writer_seat, writer_there}
-use Rattle.model_ownrun.proofs.UserPart.{Aside, checks, finds_held, gives_broken, none_checking, steps, takes}
-use Rattle.model_ownrun.proofs.UserPart.{user_keeps_part}
+use Rattle.model_ownrun.proofs.UserPart.{Aside, checks, finds_held, gives_broken, none_checking, steps, takes, user_keeps_part}
 use Rattle.model_ownrun.proofs.WriterPart.{Leaves, write_by}
-use Rattle.model_own.specs.ErrandFits.{ErrandFits}
-use Rattle.model_ownrun.specs.OwnRunning.{Errands, IsWriterAtRest, NobodyAtWork, OwnRunning}
-use Rattle.model_ownrun.specs.OwnRunning.{WorkFits, WritesAt}
+use Rattle.model_ownrun.specs.OwnRunning.{Errands, IsWriterAtRest, NobodyAtWork, OwnRunning, WorkFits, WritesAt}
 use Rattle.model_pagecore.specs.DataLaws.{DataLaws}
 use Rattle.model_running.proofs.EachTurn.{turn_keeps}
 use Rattle.model_running.proofs.Turns.{next_words}
-use Rattle.model_running.specs.RunningStore.{BothHalves}
+use Rattle.model_running.specs.Watermarks.{BothHalves}
 
 -- no Op of the log's work writes pages
 data_same : (E : DataSide) (d e : E.Part) (code : ℕ) (k : LogWork) (x : ErrandStep) (o : Op)

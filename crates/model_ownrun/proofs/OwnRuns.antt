@@ -1,36 +1,28 @@
 -- From its start on a run of users that write for themselves is a running store; with one alone none of its turns is
 -- idle.
-use Rattle.std.proofs.Common.{List, [], ap, arith, false, get_or, inl, length, refl, subst, suc, sym, true, zero, ℕ}
-use Rattle.std.proofs.Common.{⊎_elim, ◌*◌, ◌+◌, ◌∙◌, ◌∷◌, ◌≡◌, ◌≤◌}
+use Rattle.std.proofs.Common.{List, [], ap, arith, false, get_or, inl, length, refl, subst, suc, sym, true, zero, ℕ, ⊎_elim, ◌*◌, ◌+◌, ◌∙◌, ◌∷◌, ◌≡◌, ◌≤◌}
 use Rattle.std.proofs.lemmas.List.{length-set}
 use lib.ListN.{get_elem?}
 use mathlib.Core.Option.{some}
 use Rattle.model_base.specs.declared.limits.TheConstants.{BLOCK_SIZE}
-use Rattle.model_core.specs.{Actor, filled, Listed, lsn, SharedWords, took}
-use Rattle.model_core.specs.DataSide.{DataSide}
-use Rattle.model_core.specs.LogSide.{LogSide}
-use Rattle.model_core.specs.Setup.{Setup}
-use Rattle.model_core.specs.StartWords.{start_checkpoint}
+use Rattle.model_core.specs.{Actor, filled, Listed, lsn, SharedWords, took, DataSide, LogSide, Setup, start_checkpoint}
 use Rattle.model_core.specs.declared.limits.TheConstants.{FREE_MARGIN}
 use Rattle.model_core.specs.declared.ops.Answer.{Answer}
 use Rattle.model_core.specs.declared.ops.Step.{Step}
 use Rattle.model_core.specs.declared.ops.Step.TheVariants as step
 use Rattle.model_core.specs.declared.steps.UserStep.{UserStep}
-use Rattle.model_core.specs.Actors as actor
+use Rattle.model_core.specs.States as actor
 use Rattle.model_logcore.proofs.NewUsers.{new_step}
-use Rattle.model_logcore.specs.LogHalf.{left_to_reserve}
+use Rattle.model_logcore.specs.{left_to_reserve}
 use Rattle.model_logcore.specs.LogLaws.{LogLaws}
-use Rattle.model_own.specs.OwnTurn.{OtherTurn, OwnCore, OwnTurn, all_actors, with_writer}
-use Rattle.model_own.specs.OwnWrites.{LogWork, OwnUser, own_goes_on}
-use Rattle.model_own.specs.ErrandFits.{has_work}
+use Rattle.model_own.specs.{OtherTurn, OwnCore, OwnTurn, all_actors, with_writer, LogWork, OwnUser, own_goes_on, has_work}
+use Rattle.model_own.specs.ErrandFits.{ErrandFits}
 use Rattle.model_own.specs.declared.errand.ErrandStep.{ErrandStep}
 use Rattle.model_own.specs.declared.errand.ErrandStep.TheVariants as errand_step
 use Rattle.model_ownrun.proofs.AloneKeeps.{alone_turns}
 use Rattle.model_ownrun.proofs.OwnKeeps.{own_turn_keeps}
 use Rattle.model_ownrun.proofs.Seats.{seats_count}
-use Rattle.model_ownrun.specs.Alone.{Alone, AloneRunning, ErrandAlone, UserAlone}
-use Rattle.model_own.specs.ErrandFits.{ErrandFits}
-use Rattle.model_ownrun.specs.OwnRunning.{OwnRunning, WorkFits}
+use Rattle.model_ownrun.specs.OwnRunning.{Alone, AloneRunning, ErrandAlone, UserAlone, OwnRunning, WorkFits}
 use Rattle.model_ownrun.specs.OwnRuns.{AskAtSeat, AskOrGo, own_store}
 use Rattle.model_ownrun.specs.OwnStart.{OwnStart}
 use Rattle.model_pagecore.specs.DataLaws.{DataLaws}
@@ -39,8 +31,7 @@ use Rattle.model_logcore.proofs.StartHolds.{start}
 use Rattle.model_running.proofs.TurnsAs.{turns_as}
 use Rattle.model_running.proofs.Watermarks.{has_watermarks}
 use Rattle.model_running.specs.{Asks, TakesTurns, tells_nothing}
-use Rattle.model_running.specs.RunningStore.{RunningStore}
-use Rattle.model_running.specs.Watermarks.{HasWatermarks}
+use Rattle.model_running.specs.Watermarks.{RunningStore, HasWatermarks}
 
 one_user : (users : List OwnUser) → length users ≡ 1 → (o : OwnUser) × (users ≡ o ∷ [])
 one_user [] long = absurd (omega arith)

@@ -1,14 +1,9 @@
 -- Each turn of a store whose users write for themselves leaves each user, and the other actors, in their seats.
-use Rattle.std.proofs.Common.{Bool, List, cond, false, refl, set, subst, sym, true, ℕ, ⊎_elim, ◌+◌}
-use Rattle.std.proofs.Common.{◌==◌, ◌≡◌}
+use Rattle.std.proofs.Common.{Bool, List, cond, false, refl, set, subst, sym, true, ℕ, ⊎_elim, ◌+◌, ◌==◌, ◌≡◌}
 use lib.ListN.{get_elem?}
 use mathlib.Core.Option.{some}
 use Rattle.model_core.proofs.Later.{Keeps, still, took_keeps}
-use Rattle.model_core.specs.{Actor, flusher_took, FlusherState, heard, old_of, user_took, writer_took, UserState}
-use Rattle.model_core.specs.{WriterState}
-use Rattle.model_core.specs.DataSide.{DataSide}
-use Rattle.model_core.specs.LogSide.{LogSide}
-use Rattle.model_core.specs.Setup.{Setup}
+use Rattle.model_core.specs.{Actor, flusher_took, FlusherState, heard, old_of, user_took, writer_took, UserState, WriterState, DataSide, LogSide, Setup}
 use Rattle.model_core.specs.declared.ops.Answer.{Answer}
 use Rattle.model_core.specs.declared.ops.Step.{Step}
 use Rattle.model_core.specs.declared.steps.FlusherStep.{FlusherStep}
@@ -17,15 +12,11 @@ use Rattle.model_core.specs.declared.ops.Answer.TheVariants as answer
 use Rattle.model_core.specs.declared.steps.FlusherStep.TheVariants as flusher_step
 use Rattle.model_core.specs.declared.steps.UserStep.TheVariants as user_step
 use Rattle.model_core.specs.declared.steps.WriterStep.TheVariants as writer_step
-use Rattle.model_core.specs.Actors as actor
-use Rattle.model_own.specs.OwnTurn.{OwnCore, OwnTurn, UserTurn, all_actors, with_writer}
-use Rattle.model_own.specs.OwnWrites.{LogWork, OwnUser, after_flusher, after_writer, errand_took, loads_again}
-use Rattle.model_own.specs.OwnWrites.{own_checked, own_goes_on, own_stepped, sets_out, written}
-use Rattle.model_own.specs.OwnWrites.{keeps_helped}
+use Rattle.model_core.specs.States as actor
+use Rattle.model_own.specs.{OwnCore, OwnTurn, UserTurn, all_actors, with_writer, LogWork, OwnUser, after_flusher, after_writer, errand_took, loads_again, own_checked, own_goes_on, own_stepped, sets_out, written, keeps_helped}
 use Rattle.model_own.specs.declared.errand.ErrandStep.{ErrandStep}
 use Rattle.model_own.specs.declared.errand.ErrandStep.TheVariants as errand_step
-use Rattle.model_ownrun.proofs.Seats.{flusher_put, flusher_seat, flusher_there, user_put, user_there, writer_put}
-use Rattle.model_ownrun.proofs.Seats.{writer_seat, writer_there}
+use Rattle.model_ownrun.proofs.Seats.{flusher_put, flusher_seat, flusher_there, user_put, user_there, writer_put, writer_seat, writer_there}
 use Rattle.model_running.proofs.SeatsKeep.{seats_keep, turn_keeps_seats}
 use Rattle.model_running.specs.Seated.{AreSeated}
 
@@ -102,7 +93,7 @@ module _ {live : Bool} (c : Setup) (users : List OwnUser) (k : LogWork) (others 
       let us : List OwnUser = set users i x in
       let with_user = seats_keep c (all_actors users k others) seated i (actor.User o.user) (actor.User x.user)
       (user_there users k others i o at)
-      (x.user, refl, same.0, same.1, same.2, same.3, same.4) in
+      (x.user, refl, same.0, same.1, same.2, same.3, same.4, same.5) in
       let s1 : AreSeated live c (all_actors us k others) =
       subst (AreSeated live c) (user_put users k others i o x at) with_user in
       let writer_in = seats_keep c (all_actors us k others) s1 (writer_seat us) (actor.Writer k.writer)

@@ -4,30 +4,24 @@ use lib.ListN.{get_elem?}
 use mathlib.Core.Option.{some, some-injective}
 use native.Mathlib.Decide.{ℕ_discrete}
 use Rattle.model_core.proofs.Lists.{at_set, set_at, set_else}
-use Rattle.model_core.specs.{Actor, ChecksWithoutTail, entries, Entry, HasHolder, HasLost, holds, holds_tail, Listed}
-use Rattle.model_core.specs.{ReaderState, SharedWords, UserState}
-use Rattle.model_core.specs.DataSide.{DataSide}
-use Rattle.model_core.specs.LogSide.{LogSide}
-use Rattle.model_core.specs.Setup.{Setup}
+use Rattle.model_core.specs.{Actor, ChecksWithoutTail, entries, Entry, HasHolder, HasLost, holds, holds_tail, Listed, ReaderState, SharedWords, UserState, DataSide, LogSide, Setup}
 use Rattle.model_core.specs.declared.steps.ReaderStep.{ReaderStep}
 use Rattle.model_core.specs.declared.steps.ReaderStep.TheVariants as reader_step
 use Rattle.model_core.specs.declared.words.LinkBuffer.{LinkBuffer}
 use Rattle.model_core.specs.declared.words.LinkBuffer.TheVariants as link_buffer
-use Rattle.model_core.specs.Actors as actor
+use Rattle.model_core.specs.States as actor
 use Rattle.model_logcore.proofs.DeviceSteps.{gives, stays, takes}
 use Rattle.model_logcore.proofs.Frame.{Kept}
 use Rattle.model_logcore.specs.LogFacts.{LogGhost}
 use Rattle.model_logcore.specs.LogFits.{LogFits}
-use Rattle.model_logcore.specs.LogHalf.{left_to_reserve}
+use Rattle.model_logcore.specs.{left_to_reserve}
 use Rattle.model_pagecore.specs.PageHalf.{PageHalf}
 use Rattle.model_pagecore.specs.{HasLatch, PageFits, PageGhost}
 use Rattle.model_running.proofs.Archiving.{IsNoReader}
 use Rattle.model_running.proofs.PageTurn.{away}
 use Rattle.model_running.proofs.ReadKeeps.{others_read}
-use Rattle.model_running.specs.LatchesHeld.{LatchesAreHeld}
+use Rattle.model_running.specs.Watermarks.{LatchesAreHeld, BothHalves, UserClosed, UsersClosed}
 use Rattle.model_running.specs.ReadHalf.{ArchiverAt, HaveRunBlocks, ReadFits, ReadHalf, StaysInRun}
-use Rattle.model_running.specs.RunningStore.{BothHalves}
-use Rattle.model_running.specs.UsersClosed.{UserClosed, UsersClosed}
 
 pub holder_same : (b : LinkBuffer) (actors : List Actor) (seat : ℕ) (a x : Actor) → get_elem? actors seat ≡ some a
     → holds_tail b x ≡ holds_tail b a → HasHolder b actors → HasHolder b (set actors seat x)

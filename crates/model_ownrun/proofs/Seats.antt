@@ -4,9 +4,8 @@ use Rattle.std.proofs.Common.{List, [], ap, arith, length, map, refl, set, suc, 
 use lib.ListN.{get_elem?}
 use mathlib.Core.Option.{some, some-injective, some-ne-none}
 use Rattle.model_core.specs.{Actor, FlusherState, WriterState}
-use Rattle.model_core.specs.Actors as actor
-use Rattle.model_own.specs.OwnTurn.{all_actors}
-use Rattle.model_own.specs.OwnWrites.{LogWork, OwnUser}
+use Rattle.model_core.specs.States as actor
+use Rattle.model_own.specs.{all_actors, LogWork, OwnUser}
 
 abbrev seated : OwnUser → Actor
 seated o = actor.User o.user

@@ -2,25 +2,19 @@
 use Rattle.std.proofs.Common.{subst, Bool, List, ap, arith, false, inr, refl, ℕ, ⊎_elim, ◌≡◌, ◌⊎◌}
 use lib.ListN.{get_elem?}
 use mathlib.Core.Option.{some}
-use Rattle.model_core.specs.{Actor, Listed, SharedWords, UserState}
-use Rattle.model_core.specs.Holding.{user_holds_tail}
-use Rattle.model_core.specs.DataSide.{DataSide}
-use Rattle.model_core.specs.LogSide.{LogSide}
-use Rattle.model_core.specs.Setup.{Setup}
+use Rattle.model_core.specs.{Actor, Listed, SharedWords, UserState, user_holds_tail, DataSide, LogSide, Setup}
 use Rattle.model_core.specs.declared.steps.UserStep.{UserStep}
 use Rattle.model_core.specs.declared.words.LinkBuffer.{LinkBuffer}
 use Rattle.model_core.specs.declared.steps.UserStep.TheVariants as user_step
 use Rattle.model_core.specs.declared.words.LinkBuffer.TheVariants as link_buffer
-use Rattle.model_core.specs.Actors as actor
+use Rattle.model_core.specs.States as actor
 use Rattle.model_logcore.specs.LogFacts.{LogGhost}
-use Rattle.model_logcore.specs.LogFits.{UserAt, UserFits}
-use Rattle.model_own.specs.OwnWrites.{begins_again, loads_again}
+use Rattle.model_logcore.specs.{UserAt, UserFits}
+use Rattle.model_own.specs.{begins_again, loads_again, MayHelpAt}
 use Rattle.model_ownrun.proofs.Restated.{IsAlike}
-use Rattle.model_own.specs.ErrandFits.{MayHelpAt}
 use Rattle.model_pagecore.specs.{PageGhost, UserHasLatch}
 use Rattle.model_pagecore.specs.PageHalf.{UserClosingAt, UserPageFits, UserPagesAt}
-use Rattle.model_running.specs.RunningStore.{BothHalves}
-use Rattle.model_running.specs.UsersClosed.{HandIsClosed, UserClosed}
+use Rattle.model_running.specs.Watermarks.{BothHalves, HandIsClosed, UserClosed}
 
 -- from the one step to the other
 abbrev pub Again : UserStep → UserStep → Type 0

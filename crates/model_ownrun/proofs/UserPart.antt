@@ -5,32 +5,21 @@ use Rattle.std.proofs.lemmas.List.{set-set}
 use lib.ListN.{get_elem?}
 use mathlib.Core.Option.{some}
 use Rattle.model_core.proofs.Lists.{set_at}
-use Rattle.model_core.specs.{Actor, DataServed}
-use Rattle.model_core.specs.{heard, Listed, LogServed, Nothing}
-use Rattle.model_core.specs.{shared_left, SharedWords, user_op, user_took}
-use Rattle.model_core.specs.{UserState}
-use Rattle.model_core.specs.DataSide.{DataSide}
-use Rattle.model_core.specs.LogSide.{LogSide}
-use Rattle.model_core.specs.Setup.{Setup}
+use Rattle.model_core.specs.{Actor, DataServed, heard, Listed, LogServed, Nothing, shared_left, SharedWords, user_op, user_took, UserState, DataSide, LogSide, Setup}
 use Rattle.model_core.specs.declared.ops.Op.{Op}
 use Rattle.model_core.specs.declared.steps.UserStep.{UserStep}
 use Rattle.model_core.specs.declared.steps.UserStep.TheVariants as user_step
 use Rattle.model_core.specs.declared.words.LinkBuffer.TheVariants as link_buffer
 use Rattle.model_logcore.specs.LogLaws.{LogLaws}
 use Rattle.model_own.proofs.SetsOut.{out_at}
-use Rattle.model_own.specs.OwnTurn.{all_actors}
-use Rattle.model_own.specs.OwnWrites.{LogWork, OwnUser, asks_again, begins_again, given_back}
-use Rattle.model_own.specs.ErrandFits.{has_work}
-use Rattle.model_own.specs.OwnWrites.{keeps_helped, loads_again, own_checked, own_stepped, sets_out, taken_up, waiting}
+use Rattle.model_own.specs.{all_actors, LogWork, OwnUser, asks_again, begins_again, given_back, keeps_helped, loads_again, own_checked, own_stepped, sets_out, taken_up, waiting, has_work, MayHelpAt}
+use Rattle.model_own.specs.ErrandFits.{ErrandFits}
 use Rattle.model_own.specs.declared.errand.ErrandStep.{ErrandStep}
 use Rattle.model_own.specs.declared.errand.ErrandStep.TheVariants as errand_step
 use Rattle.model_ownrun.proofs.ActorSteps.{user_checks, user_goes_on}
-use Rattle.model_ownrun.proofs.Moves.{advance_keeps, answer_to, flusher_gives, flusher_takes, lists_after, Runs}
-use Rattle.model_ownrun.proofs.Moves.{user_moves}
+use Rattle.model_ownrun.proofs.Moves.{advance_keeps, answer_to, flusher_gives, flusher_takes, lists_after, Runs, user_moves}
 use Rattle.model_ownrun.proofs.UserAlike.{again_begins, again_loads, again_same}
 use Rattle.model_ownrun.proofs.WriterPart.{Leaves, goes_to}
-use Rattle.model_own.specs.ErrandFits.{MayHelpAt}
-use Rattle.model_own.specs.ErrandFits.{ErrandFits}
 use Rattle.model_ownrun.specs.OwnRunning.{WorkFits}
 use Rattle.model_pagecore.specs.DataLaws.{DataLaws}
 

@@ -1,19 +1,11 @@
 -- The writer's part of a user's errand: each Op leads to the next one of it, or to the flusher's part.
-use Rattle.std.proofs.Common.{Bool, List, ap, arith, cond, eqb, eqb-true, false, length, refl, set, subst, sym, true, ℕ}
-use Rattle.std.proofs.Common.{◌+◌, ◌*◌, ◌∙◌, ◌≡◌}
+use Rattle.std.proofs.Common.{Bool, List, ap, arith, cond, eqb, eqb-true, false, length, refl, set, subst, sym, true, ℕ, ◌+◌, ◌*◌, ◌∙◌, ◌≡◌}
 use Rattle.std.proofs.lemmas.Bool.{eqb-false}
 use Rattle.std.specs.Prelude.{nat_lt}
-use Rattle.model_core.specs.Holding.{writer_holds_tail}
+use Rattle.model_core.specs.{writer_holds_tail, Actor, advance_next, Blocks, DataServed, ends, finds_no_more, FlusherState, has_log_space, has_whole_word, left_in_word, Lent, Listed, LogServed, lsn, old_of, read_place, shared_left, SharedWords, stands_outside, word_end, writer_holds, writer_op, writer_took, WriterState, DataSide, LogSide, Setup}
 use lib.ListN.{get_elem?}
 use mathlib.Core.Option.{some}
 use Rattle.model_core.proofs.Lists.{set_again}
-use Rattle.model_core.specs.{Actor, advance_next, Blocks, DataServed, ends, finds_no_more, FlusherState, has_log_space}
-use Rattle.model_core.specs.{has_whole_word, left_in_word, Lent, Listed, LogServed, lsn, old_of, read_place}
-use Rattle.model_core.specs.{shared_left, SharedWords, stands_outside, word_end, writer_holds, writer_op, writer_took}
-use Rattle.model_core.specs.{WriterState}
-use Rattle.model_core.specs.DataSide.{DataSide}
-use Rattle.model_core.specs.LogSide.{LogSide}
-use Rattle.model_core.specs.Setup.{Setup}
 use Rattle.model_core.specs.declared.ops.Answer.{Answer}
 use Rattle.model_core.specs.declared.ops.Op.{Op}
 use Rattle.model_core.specs.declared.steps.AdvanceStep.{AdvanceStep}
@@ -23,25 +15,19 @@ use Rattle.model_core.specs.declared.steps.AdvanceStep.TheVariants as advance_st
 use Rattle.model_core.specs.declared.steps.FlusherStep.TheVariants as flusher_step
 use Rattle.model_core.specs.declared.steps.WriterStep.TheVariants as writer_step
 use Rattle.model_core.specs.declared.words.LinkBuffer.TheVariants as link_buffer
-use Rattle.model_core.specs.Actors as actor
+use Rattle.model_core.specs.States as actor
 use Rattle.model_logcore.proofs.DeviceSteps.{can_write}
-use Rattle.model_logcore.specs.LogFits.{WriterAt, WriterFits}
+use Rattle.model_logcore.specs.{WriterAt, WriterFits}
 use Rattle.model_logcore.specs.LogLaws.{AfterWrite, LogLaws}
 use Rattle.model_log.specs.declared.layout.TheConstants.{BLOCK_DATA}
-use Rattle.model_own.specs.OwnTurn.{all_actors}
-use Rattle.model_own.specs.OwnWrites.{given_back, LogWork, OwnUser, after_writer, flushes_at}
-use Rattle.model_own.specs.OwnWrites.{rested_writer, taken_up, written}
+use Rattle.model_own.specs.{all_actors, given_back, LogWork, OwnUser, after_writer, flushes_at, rested_writer, taken_up, written, MayHelpAt}
 use Rattle.model_own.specs.declared.errand.ErrandStep.{ErrandStep}
 use Rattle.model_own.specs.declared.errand.ErrandStep.TheVariants as errand_step
 use Rattle.model_ownrun.proofs.ActorSteps.{user_fails, writer_goes_on}
-use Rattle.model_ownrun.proofs.Moves.{advance_keeps, answer_to, device_is, flusher_gives, flusher_goes_on, flusher_has}
-use Rattle.model_ownrun.proofs.Moves.{flusher_takes}
-use Rattle.model_ownrun.proofs.Moves.{HoldsNoTail, lists_after, none_at_rest, Runs, RunsAfter, user_moves, writer_gives}
-use Rattle.model_ownrun.proofs.Moves.{writer_has, writer_rests, writer_takes}
+use Rattle.model_ownrun.proofs.Moves.{advance_keeps, answer_to, device_is, flusher_gives, flusher_goes_on, flusher_has, flusher_takes, HoldsNoTail, lists_after, none_at_rest, Runs, RunsAfter, user_moves, writer_gives, writer_has, writer_rests, writer_takes}
 use Rattle.model_ownrun.proofs.Seats.{writer_seat, writer_there}
 use Rattle.model_ownrun.proofs.UserAlike.{again_same}
 use Rattle.model_ownrun.proofs.WriterStates.{with_cleared, with_room, with_word, with_write}
-use Rattle.model_own.specs.ErrandFits.{MayHelpAt}
 use Rattle.model_own.specs.ErrandFits.{ErrandFits}
 use Rattle.model_ownrun.specs.OwnRunning.{FlushesAt, IsFlusherAtRest, WorkFits, WritesAt}
 use Rattle.model_pagecore.specs.DataLaws.{DataLaws}

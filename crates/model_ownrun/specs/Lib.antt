@@ -1,4 +1,3 @@
-pub mod Alone
 pub mod OwnRunning
 pub mod OwnRuns
 pub mod OwnStart

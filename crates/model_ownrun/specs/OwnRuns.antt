@@ -3,14 +3,10 @@
 use Rattle.std.specs.Prelude.{List, [], false, length, ℕ, ◌+◌, ◌∷◌, ◌≡◌, ◌≤◌}
 use lib.ListN.{get_elem?}
 use mathlib.Core.Option.{some}
-use Rattle.model_core.specs.{lent, next}
-use Rattle.model_core.specs.Actors.{Actor}
-use Rattle.model_core.specs.DataSide.{DataSide}
-use Rattle.model_core.specs.LogSide.{LogSide}
+use Rattle.model_core.specs.{lent, next, Actor, DataSide, LogSide}
 use Rattle.model_core.specs.declared.ops.Step.{Step}
 use Rattle.model_core.specs.declared.ops.Step.TheVariants as step
-use Rattle.model_own.specs.OwnTurn.{OwnCore, OwnTurn, with_writer}
-use Rattle.model_own.specs.OwnWrites.{OwnUser, own_lends, own_next}
+use Rattle.model_own.specs.{OwnCore, OwnTurn, with_writer, OwnUser, own_lends, own_next}
 use Rattle.model_own.specs.declared.errand.ErrandStep.TheVariants as errand_step
 use Rattle.model_running.specs.{Asks, TurnStore, TurnTaken}
 

@@ -1,14 +1,11 @@
 -- A run of users that write for themselves, as it begins.
 use Rattle.std.specs.Prelude.{[], ℕ, ◌+◌, ◌<◌, ◌≡◌}
 use Rattle.model_base.specs.declared.limits.TheConstants.{LSN_LIMIT}
-use Rattle.model_core.specs.{flat, layout_of, lsn, SharedWords}
-use Rattle.model_core.specs.DataSide.{DataSide}
-use Rattle.model_core.specs.LogSide.{LogSide}
-use Rattle.model_core.specs.Setup.{Setup}
+use Rattle.model_core.specs.{flat, layout_of, lsn, SharedWords, DataSide, LogSide, Setup}
 use Rattle.model_logcore.specs.LogFacts.{sum_over_actors}
-use Rattle.model_logcore.specs.LogHalf.{left_to_reserve}
+use Rattle.model_logcore.specs.{left_to_reserve}
 use Rattle.model_logcore.specs.Start.{flusher_start, writer_start}
-use Rattle.model_own.specs.OwnTurn.{OwnCore, all_actors}
+use Rattle.model_own.specs.{OwnCore, all_actors}
 use Rattle.model_ownrun.specs.OwnRuns.{AreAtHome}
 use Rattle.model_running.specs.StartStore.{StartStore}
 

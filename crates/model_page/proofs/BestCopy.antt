@@ -2,7 +2,8 @@
 use Rattle.std.proofs.Common.{◌≡◌, ℕ, zero, suc, ◌≤◌, ◌<◌, ◌⊎◌, inl, inr, List, Option, Some, None, refl, sym, subst, ◌∙◌, ⊎_elim, arith}
 use Rattle.std.proofs.lemmas.Bool.{cases_lt}
 use Rattle.model_base.specs.declared.shape.Shape.{Shape}
-use Rattle.model_page.specs.Copies.{copy_lsn, HasBestCopy}
+use Rattle.model_page.specs.Page.{copy_lsn}
+use Rattle.model_page.specs.Fits.{HasBestCopy}
 
 -- of the slots below the bound, this one holds the copy that counts
 pub record IsBestBelow (shape : Shape) (image : List ℕ) (page bound slot lsn : ℕ) : Type 0 where

@@ -1,8 +1,7 @@
 -- What is kept of a page is determined, and a page that is kept isn't lost.
 use Rattle.std.proofs.Common.{◌≡◌, ℕ, ◌<◌, ◌≤◌, inl, inr, List, arith, sym, ap, ◌∙◌}
 use Rattle.model_base.specs.declared.shape.Shape.{Shape}
-use Rattle.model_page.specs.Page.{user_part}
-use Rattle.model_page.specs.Copies.{IsKept, IsBestCopy, IsLost, slot_bytes}
+use Rattle.model_page.specs.Page.{user_part, IsKept, IsBestCopy, IsLost, slot_bytes}
 use Rattle.model_page.specs.declared.content.Content.{Content}
 
 -- what a page holds is its lsn and its user bytes

@@ -2,9 +2,8 @@
 ghost use Rattle.std.specs.Prelude.{ℕ, List, length, ◌≡◌, ◌<◌, ◌+◌, false, Some};
 ghost use Rattle.model_base.specs.{frame_length, IsPageSize};
 ghost use Rattle.model_base.specs.declared.shape.Shape.{Shape};
-ghost use Rattle.model_page.specs.Copies.{copy_lsn, IsBestCopy, HasBestCopy, IsKept, IsLost};
-ghost use Rattle.model_page.specs.Fits.{FitsPage};
-ghost use Rattle.model_page.specs.Page.{page_text, is_blank, page_check, user_part};
+ghost use Rattle.model_page.specs.Page.{copy_lsn, IsBestCopy, IsKept, IsLost, page_text, is_blank, page_check, user_part};
+ghost use Rattle.model_page.specs.Fits.{HasBestCopy, FitsPage};
 ghost use Rattle.model_page.specs.declared.content.Content.{Content};
 ghost use Rattle.model_page.specs.declared.page.PageState.TheVariants.{Sound};
 

@@ -9,18 +9,15 @@ use native.Mathlib.Decide.{dec_le, ℕ_discrete}
 use Rattle.model_core.proofs.Groups.{some_same}
 use Rattle.model_core.proofs.Lsns.{ring_same}
 use Rattle.model_core.proofs.Tails.{held_in, tail_in}
-use Rattle.model_core.specs.{Actor, Advance, advance_next, advance_op, advance_took, after, ends, Entry, found, is_held, Listed, loaded_tail, lsn, SharedWords, tail_of, tail_word, UserState}
-use Rattle.model_core.specs.DataSide.{DataSide}
-use Rattle.model_core.specs.Setup.{Setup}
+use Rattle.model_core.specs.{Actor, Advance, advance_next, advance_op, advance_took, after, ends, Entry, found, is_held, Listed, loaded_tail, lsn, SharedWords, tail_of, tail_word, UserState, DataSide, Setup}
 use Rattle.model_core.specs.declared.steps.AdvanceStep.{AdvanceStep}
 use Rattle.model_pagecore.proofs.PageStep.{ring_step}
-use Rattle.model_pagecore.specs.Growing.{Grows}
-use Rattle.model_pagecore.specs.PageFacts.{ClosedLink, ClosedLinks, PageGhost}
+use Rattle.model_pagecore.specs.PageFacts.{Grows, ClosedLink, ClosedLinks, PageGhost}
 use Rattle.model_pagecore.specs.PageHalf.{ClosingAt, HasFound, HoldsCtail, PageFits, PageHalf}
 use Rattle.model_pagecore.specs.Pages.{Laid, start_lsn}
 use Rattle.model_core.specs.declared.steps.AdvanceStep.TheVariants as advance_step
 use Rattle.model_core.specs.declared.words.LinkBuffer.TheVariants as link_buffer
-use Rattle.model_core.specs.Actors as actor
+use Rattle.model_core.specs.States as actor
 use Rattle.model_core.specs.declared.limits.TheConstants.{ADVANCE_PLACES, CLOSED_LINKS}
 
 -- the step after one: an advance that ends stands at its first

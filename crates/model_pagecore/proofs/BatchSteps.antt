@@ -7,20 +7,17 @@ use native.Mathlib.Decide.{dec_le, ℕ_discrete}
 use Rattle.model_base.specs.{IsPageSize}
 use Rattle.model_base.specs.declared.limits.TheConstants.{LSN_LIMIT}
 use Rattle.model_core.proofs.Groups.{some_same}
-use Rattle.model_core.specs.{Actor, BatchPage, CleanerState, Entry, frame_words, framed_page, KeptPage, Listed, lsn, page_words_at, SharedWords, UserState}
-use Rattle.model_core.specs.DataSide.{DataSide}
-use Rattle.model_core.specs.Setup.{Setup}
+use Rattle.model_core.specs.{Actor, BatchPage, CleanerState, Entry, frame_words, framed_page, KeptPage, Listed, lsn, page_words_at, SharedWords, UserState, DataSide, Setup}
 use Rattle.model_pagecore.proofs.PageHistory.{last_most, upto_whole}
 use Rattle.model_pagecore.proofs.PageFrame.{page_moved, page_others, pages_same}
 use Rattle.model_pagecore.proofs.PageStep.{mate}
 use Rattle.model_pagecore.specs.DataLaws.{CanBatch, kept_in, renewed}
 use Rattle.model_pagecore.proofs.Unfinished.{none_unfinished}
-use Rattle.model_pagecore.specs.Growing.{Grows}
-use Rattle.model_pagecore.specs.PageFacts.{AreUnfinished, PageGhost, listed_lsn}
+use Rattle.model_pagecore.specs.PageFacts.{Grows, AreUnfinished, PageGhost, listed_lsn}
 use Rattle.model_pagecore.specs.PageHalf.{At, CleanerAt, CleanerFits, InBatch, IsBatchKept, PageHalf, runs}
 use Rattle.model_pagecore.specs.Pages.{All, EndsAt, FrameStage, GroupInHand, Laid, Last, NewestStage, OnePage, ListingStage, Agree, none_in_hand, applied_upto}
 use Rattle.model_core.specs.declared.steps.CleanerStep.TheVariants as cleaner_step
-use Rattle.model_core.specs.Actors as actor
+use Rattle.model_core.specs.States as actor
 use Rattle.model_core.proofs.FrameWords.{framed_long}
 
 -- a page with a batch is the batch's, or as it was

@@ -6,21 +6,18 @@ use lib.ListN.{get_elem?}
 use mathlib.Core.Option.{some, some-ne-none}
 use Rattle.model_core.proofs.Groups.{some_same}
 use Rattle.model_core.proofs.Tails.{tail_in}
-use Rattle.model_core.specs.{Actor, BatchPage, checkpointer_took, CheckpointerState, cleaner_took, CleanerState, Entry, first_of_batch, floor, framed_page, Listed, lsn, no_page, page_words_at, PageWords, SharedWords, tail_of, tail_word, UserState, with_page_words}
-use Rattle.model_core.specs.DataSide.{DataSide}
-use Rattle.model_core.specs.Setup.{Setup}
+use Rattle.model_core.specs.{Actor, BatchPage, checkpointer_took, CheckpointerState, cleaner_took, CleanerState, Entry, first_of_batch, floor, framed_page, Listed, lsn, no_page, page_words_at, PageWords, SharedWords, tail_of, tail_word, UserState, with_page_words, DataSide, Setup}
 use Rattle.model_core.specs.declared.steps.CleanerStep.{CleanerStep}
 use Rattle.model_pagecore.proofs.CleanerSteps.{at_stage}
 use Rattle.model_pagecore.proofs.PageFrame.{page_moved, page_others, pages_same}
 use Rattle.model_pagecore.proofs.PageStep.{at_else, at_here, freed_sheet, latched_sheet, leaf_else, leaf_here, leaf_step, list_at, list_step, mate, page_quiet}
-use Rattle.model_pagecore.specs.Growing.{Grows}
-use Rattle.model_pagecore.specs.PageFacts.{PageGhost}
+use Rattle.model_pagecore.specs.PageFacts.{Grows, PageGhost}
 use Rattle.model_pagecore.specs.PageHalf.{AreBatch, At, CanGive, CleanerAt, CleanerFits, InBatch, PageHalf, CheckpointerPagesAt, CheckpointerPageFits, Unlisting, rests, runs}
 use Rattle.model_pagecore.specs.Pages.{All, InWordOnly, Laid, Last, Unlisted, ListingStage, Agree, end_lsn, none_in_hand, start_lsn, is_changed_page}
 use Rattle.model_core.specs.declared.ops.Answer.TheVariants as answer
 use Rattle.model_core.specs.declared.steps.CleanerStep.TheVariants as cleaner_step
 use Rattle.model_core.specs.declared.steps.CheckpointerStep.TheVariants as checkpointer_step
-use Rattle.model_core.specs.Actors as actor
+use Rattle.model_core.specs.States as actor
 
 -- the first page of a batch
 pub front_of : (l : List BatchPage) → 0 < length l → (x : BatchPage) × (get_elem? l 0 ≡ some x) × ◌≡◌ {A = BatchPage} (get_or l 0 no_page) x

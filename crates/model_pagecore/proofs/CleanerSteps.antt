@@ -7,17 +7,14 @@ use mathlib.Core.Option.{some, some-ne-none}
 use Rattle.model_base.proofs.ShapeLimits.{page_size_facts}
 use Rattle.model_base.specs.{IsPageSize}
 use Rattle.model_core.proofs.Groups.{at_end, at_less, changed, changed_else, changed_here}
-use Rattle.model_core.specs.{Actor, BatchPage, cleaner_took, CleanerState, Entry, frame_words, framed_page, Listed, lsn, next_in_round, page_loaded, page_words_at, PageWords, SharedWords, UserState, with_page_words}
-use Rattle.model_core.specs.DataSide.{DataSide}
-use Rattle.model_core.specs.Setup.{Setup}
+use Rattle.model_core.specs.{Actor, BatchPage, cleaner_took, CleanerState, Entry, frame_words, framed_page, Listed, lsn, next_in_round, page_loaded, page_words_at, PageWords, SharedWords, UserState, with_page_words, DataSide, Setup}
 use Rattle.model_pagecore.proofs.PageStep.{at_else, at_here, freed_sheet, latched_sheet, leaf_else, leaf_here, leaf_step, page_quiet}
-use Rattle.model_pagecore.specs.Growing.{Grows}
-use Rattle.model_pagecore.specs.PageFacts.{PageGhost, listed_lsn}
+use Rattle.model_pagecore.specs.PageFacts.{Grows, PageGhost, listed_lsn}
 use Rattle.model_pagecore.specs.PageHalf.{AreIn, CleanerAt, CleanerFits, InBatch, Looking, PageHalf, runs}
 use Rattle.model_pagecore.specs.Pages.{All, Laid, Last, PageIs, Agree, none_in_hand}
 use Rattle.model_core.specs.declared.ops.Answer.TheVariants as answer
 use Rattle.model_core.specs.declared.steps.CleanerStep.TheVariants as cleaner_step
-use Rattle.model_core.specs.Actors as actor
+use Rattle.model_core.specs.States as actor
 use Rattle.model_core.proofs.FrameWords.{framed_next}
 use Rattle.model_core.proofs.Lanes.{lanes_long}
 use Rattle.model_core.proofs.PageSizes.{frame_fills, whole_words}

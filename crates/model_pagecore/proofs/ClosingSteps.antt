@@ -5,16 +5,13 @@ use lib.ListN.{get_elem?}
 use mathlib.Core.Option.{some}
 use native.Mathlib.Decide.{dec_le, ℕ_discrete}
 use Rattle.model_core.proofs.Groups.{changed, changed_else, changed_here, some_same}
-use Rattle.model_core.specs.{Actor, change_at, changes, Entry, entry, group_end, line, Listed, lsn, SharedWords, user_took, UserState}
-use Rattle.model_core.specs.DataSide.{DataSide}
-use Rattle.model_core.specs.Setup.{Setup}
+use Rattle.model_core.specs.{Actor, change_at, changes, Entry, entry, group_end, line, Listed, lsn, SharedWords, user_took, UserState, DataSide, Setup}
 use Rattle.model_pagecore.proofs.PageStep.{named, ring_step}
-use Rattle.model_pagecore.specs.Growing.{Grows}
-use Rattle.model_pagecore.specs.PageFacts.{PageGhost, ClosedLink, listed_lsn}
+use Rattle.model_pagecore.specs.PageFacts.{Grows, PageGhost, ClosedLink, listed_lsn}
 use Rattle.model_pagecore.specs.PageHalf.{At, PageHalf, UserPagesAt, UserPageFits, group_in_hand}
 use Rattle.model_pagecore.specs.Pages.{All, Laid, Last, IsListed, start_lsn, is_changed_page}
 use Rattle.model_core.specs.declared.steps.UserStep.TheVariants as user_step
-use Rattle.model_core.specs.Actors as actor
+use Rattle.model_core.specs.States as actor
 use Rattle.model_core.specs.declared.limits.TheConstants.{CLOSED_LINKS}
 
 -- a start is one group's

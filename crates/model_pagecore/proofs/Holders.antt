@@ -1,8 +1,6 @@
 -- What a failed actor holds: what it held before the step at which it met the failure.
 use Rattle.std.proofs.Common.{List, ℕ, ⊎_elim, ◌≡◌, ◌⊎◌}
-use Rattle.model_core.specs.DataSide.{DataSide}
-use Rattle.model_core.specs.{CleanerState, Entry, Listed, SharedWords, UserState}
-use Rattle.model_core.specs.Setup.{Setup}
+use Rattle.model_core.specs.{DataSide, CleanerState, Entry, Listed, SharedWords, UserState, Setup}
 use Rattle.model_core.specs.declared.steps.CleanerStep.{CleanerStep}
 use Rattle.model_core.specs.declared.steps.UserStep.{UserStep}
 use Rattle.model_pagecore.specs.Latches.{CleanerHasLatch, UserHasLatch}

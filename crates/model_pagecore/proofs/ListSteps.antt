@@ -6,19 +6,16 @@ use mathlib.Core.Option.{some}
 use native.Mathlib.Decide.{dec_le, ℕ_discrete}
 use Rattle.model_core.proofs.Groups.{changed, changed_else, changed_here, some_same}
 use Rattle.model_core.proofs.Lsns.{lsn_some}
-use Rattle.model_core.specs.{Actor, appended, BatchPage, CheckpointerState, CleanerState, current_page, Each, Entry, entry, first_of_batch, line, Listed, lowered, lsn, oldest_end, oldest_of, page_words_at, Relaxed, SharedWords, user_took, UserState, without}
-use Rattle.model_core.specs.DataSide.{DataSide}
-use Rattle.model_core.specs.Setup.{Setup}
+use Rattle.model_core.specs.{Actor, appended, BatchPage, CheckpointerState, CleanerState, current_page, Each, Entry, entry, first_of_batch, line, Listed, lowered, lsn, oldest_end, oldest_of, page_words_at, Relaxed, SharedWords, user_took, UserState, without, DataSide, Setup}
 use Rattle.model_pagecore.proofs.PageHistory.{each_joined, each_more, each_without, joined_else, joined_here, last_most, oldest_after, relaxed_joined, relaxed_without, without_else, without_here}
 use Rattle.model_pagecore.proofs.PageStep.{list_at, list_mem, list_sheet, list_step, work_here}
-use Rattle.model_pagecore.specs.Growing.{Grows}
-use Rattle.model_pagecore.specs.PageFacts.{PageGhost, listed_lsn}
+use Rattle.model_pagecore.specs.PageFacts.{Grows, PageGhost, listed_lsn}
 use Rattle.model_pagecore.specs.PageHalf.{At, CleanerAt, CleanerFits, InBatch, PageHalf, CheckpointerPagesAt, CheckpointerPageFits, UserPagesAt, UserPageFits, rests, runs}
 use Rattle.model_pagecore.specs.Pages.{InListOnly, All, InWordOnly, Laid, Last, Unlisted, OnePage, Agree, none_in_hand, last_end, start_lsn}
 use Rattle.model_core.specs.declared.steps.UserStep.TheVariants as user_step
 use Rattle.model_core.specs.declared.steps.CleanerStep.TheVariants as cleaner_step
 use Rattle.model_core.specs.declared.steps.CheckpointerStep.TheVariants as checkpointer_step
-use Rattle.model_core.specs.Actors as actor
+use Rattle.model_core.specs.States as actor
 use Rattle.model_core.specs.declared.limits.TheConstants.{CLOSED_LINKS}
 
 -- an lsn lowered by a list's first

@@ -3,9 +3,7 @@ use Rattle.std.proofs.Common.{List, [], ap, arith, false, inl, refl, subst, sym,
 use Rattle.std.specs.Prelude.{slice_index}
 use lib.ListN.{get_elem?}
 use mathlib.Core.Option.{some, some-ne-none}
-use Rattle.model_core.specs.{Actor, BatchPage, framed_page, KeptPage, lsn, page_words_at, PageWords, SharedWords}
-use Rattle.model_core.specs.DataSide.{DataSide}
-use Rattle.model_core.specs.Setup.{Setup}
+use Rattle.model_core.specs.{Actor, BatchPage, framed_page, KeptPage, lsn, page_words_at, PageWords, SharedWords, DataSide, Setup}
 use Rattle.model_pagecore.proofs.Unfinished.{none_unfinished}
 use Rattle.model_pagecore.specs.PageFacts.{AreUnfinished, PageGhost}
 use Rattle.model_pagecore.specs.PageHalf.{PageFits, PageHalf}

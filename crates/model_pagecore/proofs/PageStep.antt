@@ -4,16 +4,14 @@ use Rattle.std.specs.Prelude.{slice_index, slice_set}
 use lib.ListN.{get_elem?}
 use mathlib.Core.Option.{some}
 use native.Mathlib.Decide.{ℕ_discrete}
-use Rattle.model_core.specs.{Actor, blank_words, CellWrite, change_at, Entry, Listed, lsn, page_words_at, PageChange, PageWords, SharedWords, UserState, with_page_words}
-use Rattle.model_core.specs.DataSide.{DataSide}
-use Rattle.model_core.specs.Setup.{Setup}
+use Rattle.model_core.specs.{Actor, blank_words, CellWrite, change_at, Entry, Listed, lsn, page_words_at, PageChange, PageWords, SharedWords, UserState, with_page_words, DataSide, Setup}
 use Rattle.model_pagecore.proofs.PageHistory.{each_more}
 use Rattle.model_pagecore.proofs.PageFrame.{log_same, longer_same, one_page_later, page_later, page_moved, page_others, pages_same}
 use Rattle.model_pagecore.proofs.Unfinished.{unfinished_later}
 use Rattle.model_pagecore.specs.PageFacts.{ClosedLinks, PageGhost, ListFacts, listed_lsn}
 use Rattle.model_pagecore.specs.PageHalf.{At, PageFits, PageHalf, PagesInHand, group_in_hand}
 use Rattle.model_pagecore.specs.Pages.{All, Before, AgreeBelow, Cells, FrameStage, GroupInHand, Last, NewestStage, PageIs, OnePage, ListingStage, IsListed, StartsAt, Agree, cells_on, none_in_hand, is_changed_page}
-use Rattle.model_core.specs.Actors as actor
+use Rattle.model_core.specs.States as actor
 use Rattle.model_core.specs.declared.limits.TheConstants.{CLOSED_LINKS}
 
 -- the change on a page that a group names, if it names each once

@@ -7,9 +7,7 @@ use native.Mathlib.Decide.{dec_le}
 use Rattle.model_core.proofs.Lists.{at_last}
 use Rattle.model_core.proofs.Groups.{at_end, at_less}
 use Rattle.model_core.proofs.Lsns.{lsn_less, lsn_some}
-use Rattle.model_core.specs.{Actor, change_at, changes, Entry, entry, group_bytes, line, Listed, lsn, page_words_at, SharedWords, user_took, UserState}
-use Rattle.model_core.specs.DataSide.{DataSide}
-use Rattle.model_core.specs.Setup.{Setup}
+use Rattle.model_core.specs.{Actor, change_at, changes, Entry, entry, group_bytes, line, Listed, lsn, page_words_at, SharedWords, user_took, UserState, DataSide, Setup}
 use Rattle.model_pagecore.proofs.PageHistory.{upto_snoc}
 use Rattle.model_pagecore.proofs.PageFrame.{log_snoc, longer_snoc, page_moved, page_others, one_page_later}
 use Rattle.model_pagecore.proofs.PageStep.{mate, named}
@@ -18,7 +16,7 @@ use Rattle.model_pagecore.specs.PageFacts.{PageGhost, listed_lsn}
 use Rattle.model_pagecore.specs.PageHalf.{At, PageHalf, UserPagesAt, UserPageFits, group_in_hand}
 use Rattle.model_pagecore.specs.Pages.{All, Before, AgreeBelow, Cells, Laid, Last, OnePage, Agree, none_in_hand, last_end, start_lsn, is_changed_page, applied_upto, applied_all}
 use Rattle.model_core.specs.declared.steps.UserStep.TheVariants as user_step
-use Rattle.model_core.specs.Actors as actor
+use Rattle.model_core.specs.States as actor
 
 module _ (E : DataSide) (c : Setup) (seat_of : ℕ → ℕ) (m : SharedWords) (log : List Entry) (stable : ℕ) (h : PageGhost) (ls : ℕ → List Listed) (d : E.Part) (actors : List Actor) (seat : ℕ) (before : PageHalf E c m log stable h ls d actors)
     (mates : (j : ℕ) (u : UserState) → get_elem? actors j ≡ some (actor.User u) → seat_of u.user ≡ j) (W : Laid (lsn c.base) (lsn m.sn) log) where

@@ -3,9 +3,7 @@ use Rattle.std.proofs.Common.{Bool, List, length, subst, true, ℕ, ⊎_elim, �
 use Rattle.std.specs.Prelude.{get_or}
 use lib.ListN.{get_elem?}
 use Rattle.model_core.proofs.Lists.{at_set}
-use Rattle.model_core.specs.{Actor, Advance, BatchPage, change_at, CleanerState, Entry, KeptPage, Line, line_at, Listed, PageWords, SharedWords, UserState}
-use Rattle.model_core.specs.DataSide.{DataSide}
-use Rattle.model_core.specs.Setup.{Setup}
+use Rattle.model_core.specs.{Actor, Advance, BatchPage, change_at, CleanerState, Entry, KeptPage, Line, line_at, Listed, PageWords, SharedWords, UserState, DataSide, Setup}
 use Rattle.model_core.specs.declared.steps.AdvanceStep.{AdvanceStep}
 use Rattle.model_core.specs.declared.steps.CleanerStep.{CleanerStep}
 use Rattle.model_core.specs.declared.steps.CloserStep.{CloserStep}
@@ -14,7 +12,7 @@ use Rattle.model_core.specs.declared.steps.AdvanceStep.TheVariants as advance_st
 use Rattle.model_core.specs.declared.steps.CleanerStep.TheVariants as cleaner_step
 use Rattle.model_core.specs.declared.steps.CloserStep.TheVariants as closer_step
 use Rattle.model_core.specs.declared.steps.UserStep.TheVariants as user_step
-use Rattle.model_core.specs.Actors as actor
+use Rattle.model_core.specs.States as actor
 use Rattle.model_pagecore.specs.PageFacts.{PageFacts, PageGhost}
 use Rattle.model_pagecore.specs.PageHalf.{AreIn, CleanerAt, CleanerHolds, ClosingAt, CloserAt, HoldsCtail, InBatch, IsHeldAt, Looks, PageFits, PageHalf, PagesInHand, UserClosingAt, UserHolds, UserPagesAt}
 use Rattle.model_pagecore.specs.Pages.{FrameStage, GroupInHand, ListingStage, NewestStage, OnePage, PageIs}

@@ -10,9 +10,7 @@ use Rattle.model_core.proofs.Groups.{changed, changed_else, changed_here}
 use Rattle.model_core.proofs.Lsns.{lsn_some}
 unfoldable use Rattle.model_core.specs.{lanes, packed}
 use Rattle.model_base.specs.{IsPageSize}
-use Rattle.model_core.specs.{Actor, Advance, after_link, answered, cells_of, CellWrite, change_at, changes, current_page, Entry, entry, frame_count, frame_word, frame_words, framed_page, group_end, is_whole, line, Listed, lsn, mode, next_puts, page_words_at, PageWords, put_lanes, put_of, same_word, SharedWords, stored_word, to_next_page, user_took, UserState, with_page_words, word_step}
-use Rattle.model_core.specs.DataSide.{DataSide}
-use Rattle.model_core.specs.Setup.{Setup}
+use Rattle.model_core.specs.{Actor, Advance, after_link, answered, cells_of, CellWrite, change_at, changes, current_page, Entry, entry, frame_count, frame_word, frame_words, framed_page, group_end, is_whole, line, Listed, lsn, mode, next_puts, page_words_at, PageWords, put_lanes, put_of, same_word, SharedWords, stored_word, to_next_page, user_took, UserState, with_page_words, word_step, DataSide, Setup}
 use Rattle.model_core.specs.declared.steps.UserStep.{UserStep}
 use Rattle.model_pagecore.proofs.FrameStores.{word_stored, writes_next}
 use Rattle.model_core.proofs.PageSizes.{frame_fills}
@@ -20,12 +18,11 @@ use Rattle.model_core.proofs.FrameWords.{Ascend, cell_at, counted_in_word, InWor
 use Rattle.model_core.proofs.Lanes.{lanes_long}
 use Rattle.model_pagecore.proofs.PageHistory.{last_after, take_all, whole_after}
 use Rattle.model_pagecore.proofs.PageStep.{at_else, at_here, cells_mine, freed_sheet, latched_sheet, leaf_step, list_at, list_step, page_quiet, work_here}
-use Rattle.model_pagecore.specs.Growing.{Grows}
-use Rattle.model_pagecore.specs.PageFacts.{PageGhost, listed_lsn}
+use Rattle.model_pagecore.specs.PageFacts.{Grows, PageGhost, listed_lsn}
 use Rattle.model_pagecore.specs.PageHalf.{At, HasPagesInHand, IsNear, PageHalf, UserClosingAt, UserPagesAt, UserPageFits, PagesInHand, group_in_hand}
 use Rattle.model_pagecore.specs.Pages.{InListOnly, All, Before, AgreeBelow, Cells, FrameStage, Laid, Last, NewestStage, PageIs, ListingStage, IsListed, StartsAt, Agree, cells_on, none_in_hand, write_cells, is_changed_page, applied_all}
 use Rattle.model_core.specs.declared.steps.UserStep.TheVariants as user_step
-use Rattle.model_core.specs.Actors as actor
+use Rattle.model_core.specs.States as actor
 
 -- a user that goes on with one of two steps, and advances no tail at either
 module _ (E : DataSide) (c : Setup) (m : SharedWords) (log : List Entry) (h : PageGhost) (ls : ℕ → List Listed) (d : E.Part) (seat : ℕ) (v : Advance) where

@@ -3,23 +3,19 @@ use Rattle.std.proofs.Common.{Bool, List, arith, cond, eqb, false, length, ltb, 
 use lib.ListN.{get_elem?}
 use mathlib.Core.Option.{some}
 use Rattle.model_core.proofs.Tails.{tail_in}
-use Rattle.model_core.specs.{Actor, advance_next, advance_op, advance_took, after, can_close, cells_of, changes, Entry, found, frees, Listed, lsn, SharedWords, stays_put, tail_of, tail_word, user_took, UserState, with_close_room, without_close_room}
-use Rattle.model_core.specs.DataSide.{DataSide}
-use Rattle.model_core.specs.Setup.{Setup}
-use Rattle.model_core.specs.States.{Advance}
+use Rattle.model_core.specs.{Actor, advance_next, advance_op, advance_took, after, can_close, cells_of, changes, Entry, found, frees, Listed, lsn, SharedWords, stays_put, tail_of, tail_word, user_took, UserState, with_close_room, without_close_room, DataSide, Setup, Advance}
 use Rattle.model_core.specs.declared.steps.AdvanceStep.{AdvanceStep}
 use Rattle.model_core.specs.declared.steps.UserStep.{UserStep}
 use Rattle.model_pagecore.proofs.AdvanceSteps.{keeps_advance, loaded_low}
 use Rattle.model_pagecore.proofs.PageStep.{page_quiet}
 use Rattle.model_pagecore.proofs.UserPageSteps.{framed, word_closing}
-use Rattle.model_pagecore.specs.Growing.{Grows}
-use Rattle.model_pagecore.specs.PageFacts.{PageGhost}
+use Rattle.model_pagecore.specs.PageFacts.{Grows, PageGhost}
 use Rattle.model_pagecore.specs.PageHalf.{ClosingAt, HasPagesInHand, HasUntouchedPages, PageHalf, UserClosingAt, UserPageFits, UserPagesAt}
 use Rattle.model_pagecore.specs.Pages.{Before, AgreeBelow, Cells, Laid}
 use Rattle.model_core.specs.declared.steps.AdvanceStep.TheVariants as advance_step
 use Rattle.model_core.specs.declared.steps.UserStep.TheVariants as user_step
 use Rattle.model_core.specs.declared.words.LinkBuffer.TheVariants as link_buffer
-use Rattle.model_core.specs.Actors as actor
+use Rattle.model_core.specs.States as actor
 use Rattle.model_core.specs.declared.limits.TheConstants.{CLOSED_LINKS}
 
 -- a user's step after one of its advance of CTAIL: it waits (w), has freed the tail (f), or goes on

@@ -3,9 +3,7 @@ use Rattle.std.specs.Prelude.{List, [], cond, false, length, true, ℕ, ◌<◌,
 use lib.ListN.{get_elem?}
 use mathlib.Core.Option.{some}
 use Rattle.model_base.specs.declared.limits.TheConstants.{LSN_LIMIT}
-use Rattle.model_core.specs.DataSide.{DataSide}
-use Rattle.model_core.specs.{BatchPage, IsDataCode, KeptPage}
-use Rattle.model_core.specs.Setup.{Setup}
+use Rattle.model_core.specs.{DataSide, BatchPage, IsDataCode, KeptPage, Setup}
 
 -- the kept pages with a batch
 abbrev pub kept_in : List BatchPage → ℕ → KeptPage → KeptPage

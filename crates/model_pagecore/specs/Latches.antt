@@ -5,7 +5,7 @@ use mathlib.Core.Option.{some}
 use Rattle.model_core.specs.{Actor, BatchPage, change_at, changes, CleanerState, PageChange, UserState}
 use Rattle.model_core.specs.declared.steps.CleanerStep.{CleanerStep}
 use Rattle.model_core.specs.declared.steps.UserStep.{UserStep}
-use Rattle.model_core.specs.Actors as actor
+use Rattle.model_core.specs.States as actor
 use Rattle.model_core.specs.declared.steps.CleanerStep.TheVariants as cleaner_step
 use Rattle.model_core.specs.declared.steps.UserStep.TheVariants as user_step
 

@@ -1,10 +1,9 @@
 -- The page half of the invariant: what holds of the words of the pages, of the flush lists and of the data part.
+-- What each turn leaves of what only the proof knows of the pages.
 use Rattle.std.specs.Prelude.{Bool, List, false, slice_index, true, ℕ, ◌%◌, ◌+◌, ◌<◌, ◌≡◌, ◌≤◌}
 use lib.ListN.{get_elem?}
 use mathlib.Core.Option.{some}
-use Rattle.model_core.specs.DataSide.{DataSide}
-use Rattle.model_core.specs.{BatchPage, Each, Entry, KeptPage, Listed, lsn, oldest_of, page_words_at, Relaxed, SharedWords}
-use Rattle.model_core.specs.Setup.{Setup}
+use Rattle.model_core.specs.{DataSide, BatchPage, Each, Entry, KeptPage, Listed, lsn, oldest_of, page_words_at, Relaxed, SharedWords, Setup}
 use Rattle.model_pagecore.specs.DataLaws.{AreApart}
 use Rattle.model_pagecore.specs.Pages.{EndsAt, OnePage, applied_upto, end_lsn, start_lsn}
 use Rattle.model_core.specs.declared.limits.TheConstants.{CLOSED_LINKS, FLUSH_LISTS}
@@ -79,3 +78,9 @@ pub record PageFacts (E : DataSide) (c : Setup) (m : SharedWords) (log : List En
   pub unfinished : AreUnfinished c.pages c.opened h.kept_page log stable h.unfinished
   -- with the log alone there is no checkpoint but that of the start
   pub alone : c.log_only ≡ true → h.given ≤ lsn c.base
+
+-- the bound of the checkpoints doesn't fall, a group that is closed stays so, and so does who took a latch that was held
+pub record Grows (m : SharedWords) (h k : PageGhost) : Type 0 where
+  pub given : h.given ≤ k.given
+  pub closed : (x : ℕ) → h.closed x ≡ true → k.closed x ≡ true
+  pub holder : (p : ℕ) → (page_words_at m.page_words p).latch ≡ 1 → k.holder p ≡ h.holder p

@@ -2,8 +2,7 @@
 use Rattle.std.specs.Prelude.{Bool, List, [], cond, false, nat_le, slice_set, take, true, ℕ, ◌<◌, ◌==◌, ◌∷◌, ◌≡◌, ◌≤◌, ◌⊎◌}
 use lib.ListN.{get_elem?}
 use mathlib.Core.Option.{some}
-use Rattle.model_core.specs.{CellWrite, end_of, Entry, framed_page, KeptPage, lsn, PageChange, PageWords}
-use Rattle.model_core.specs.Setup.{Setup}
+use Rattle.model_core.specs.{CellWrite, end_of, Entry, framed_page, KeptPage, lsn, PageChange, PageWords, Setup}
 
 -- where a group starts and ends
 abbrev pub start_lsn : Entry → ℕ

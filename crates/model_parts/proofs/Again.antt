@@ -1,14 +1,10 @@
 -- After a crash in opening the devices are at rest, and the store on them is in order.
 use Rattle.std.proofs.Common.{ℕ, List, length, sym, subst, ⊎_elim, arith}
 use Rattle.std.proofs.lemmas.List.Elements.{All-nil}
-use Rattle.model_device.specs.{Crashes, IsSectorWrite, settled}
-use Rattle.model_device.specs.Disk.{Disk}
+use Rattle.model_device.specs.{Crashes, IsSectorWrite, settled, Disk}
 use Rattle.model_device.proofs.Images.{settled_images}
-use Rattle.model_store.specs.{IsFair, IsFairLog}
-use Rattle.model_store.specs.Reading.{Reading}
-use Rattle.model_parts.specs.Again.{HasRoom, OpensAgain}
-use Rattle.model_parts.specs.AtRest.{IsAtRest}
-use Rattle.model_parts.specs.Opened.{ReadsOpened, KeepsOpened}
+use Rattle.model_store.specs.{IsFair, IsFairLog, Reading}
+use Rattle.model_parts.specs.Opened.{HasRoom, OpensAgain, IsAtRest, ReadsOpened, KeepsOpened}
 
 pub settled-rests : (bytes : List ℕ) → IsAtRest (settled bytes)
 settled-rests bytes = let one = settled_images bytes in record { one_image = one.1; reads = one.0; sectors = All-nil (IsSectorWrite (length bytes)) }

@@ -6,11 +6,10 @@ use Rattle.model_log.specs.declared.head.Format.{Format}
 use Rattle.model_log.specs.declared.head.Format.TheVariants.{One, Two, Three}
 use Rattle.model_log.specs.declared.layout.Layout.{Layout}
 use Rattle.model_log.specs.{header_block, layout_of, log_block, lsn_at, sector_of}
-use Rattle.model_store.specs.{AreFoundIn, AreInPlace, IsOrderly, IsReading, IsScan, read_full, read_tail, taken, taken_from}
-use Rattle.model_store.specs.Reading.{Reading}
+use Rattle.model_store.specs.{AreFoundIn, AreInPlace, IsOrderly, IsReading, IsScan, read_full, read_tail, taken, taken_from, Reading}
 use Rattle.model_store.specs.declared.tail.Tail.{Tail}
 use Rattle.model_store.proofs.Taking.{taken-same}
-use Rattle.model_parts.specs.Found.{KeepsHead}
+use Rattle.model_parts.specs.Formatted.{KeepsHead}
 use Rattle.model_parts.specs.Opened.{found_layout, ReadsOpened}
 use Rattle.model_parts.specs.Rewritten.{IsRewriting}
 use Rattle.model_parts.proofs.Clearing.{block-sector, ring-from}

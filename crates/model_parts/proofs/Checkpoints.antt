@@ -6,8 +6,7 @@ use Rattle.std.proofs.lemmas.Bool.Decides.{nat_tests}
 use Rattle.model_base.specs.{field}
 use Rattle.model_base.specs.declared.limits.TheConstants.{BLOCK_SIZE, LSN_LIMIT, START_LSN}
 use Rattle.model_base.specs.declared.shape.Shape.{Shape}
-use Rattle.model_device.specs.{after_write, Covers, IsSectorWrite, sector, synced, written, written_sector}
-use Rattle.model_device.specs.Disk.{Disk}
+use Rattle.model_device.specs.{after_write, Covers, IsSectorWrite, sector, synced, written, written_sector, Disk}
 use Rattle.model_device.specs.declared.write.Write.{Write}
 use Rattle.model_device.proofs.Overwritten.{length-overwritten, part-overwritten_inside}
 use Rattle.model_log.specs.declared.group.Whole.{Whole}
@@ -19,8 +18,8 @@ use Rattle.model_log.proofs.Places.{HasBlocks}
 use Rattle.model_parts.specs.declared.marks.LogMarks.{LogMarks}
 use Rattle.model_parts.specs.declared.marks.TailMarks.{TailMarks}
 use Rattle.model_parts.specs.Held.{AreInOrder, HoldsTail, IsBeside, IsBlockPlace, IsLive, IsTail, IsWritten, LogHoldsWith, MayStand, other_place}
-use Rattle.model_parts.specs.Marks.{after_asked, after_checkpoint, after_synced, HasNextNumber}
-use Rattle.model_parts.specs.NextMarks.{MayBeNext, tails_synced}
+use Rattle.model_parts.specs.Marks.{after_asked, after_checkpoint, after_synced, tails_synced}
+use Rattle.model_parts.specs.NextMarks.{HasNextNumber, MayBeNext}
 use Rattle.model_parts.proofs.LogImages.{beside-kept, header-below, place-cases, places-on}
 use Rattle.model_parts.proofs.Puts.{adds-holds, HasToStay, place-past, place-wider, PutsWell, tail-wider}
 use Rattle.model_parts.proofs.Torn.{AddsTorn, synced-stands}

@@ -2,11 +2,10 @@
 use Rattle.std.proofs.Common.{ℕ, List, subst, arith}
 use Rattle.model_base.specs.declared.shape.Shape.{Shape}
 use Rattle.model_page.specs.declared.content.Content.{Content}
-use Rattle.model_device.specs.Disk.{Disk}
+use Rattle.model_device.specs.{Disk}
 use Rattle.model_store.specs.{IsFair}
 use Rattle.model_parts.specs.Batch.{Fresh}
-use Rattle.model_parts.specs.Stored.{IsOldOrNew, KeepsPage, ImageHolds, Keeps, IsUpTo}
-use Rattle.model_parts.specs.BatchKept.{CrashKeeps}
+use Rattle.model_parts.specs.Stored.{IsOldOrNew, KeepsPage, ImageHolds, Keeps, IsUpTo, CrashKeeps}
 use Rattle.model_page.proofs.Kept.{same_kept, kept-not_lost}
 
 pub crash-keeps : (shape : Shape) (top was : ℕ → Content) (batch : List Fresh) (disk : Disk) (image : List ℕ) → Keeps shape (IsUpTo top) was batch disk → IsFair shape disk image → CrashKeeps shape top was batch image

@@ -6,15 +6,12 @@ use Rattle.std.specs.List.{slice_get}
 use Rattle.model_base.specs.declared.shape.Shape.{Shape}
 use Rattle.model_page.specs.{copy_lsn, data_device_length, HasBestCopy, IsInPlace, place_bytes, slot_bytes, stretch_at}
 use Rattle.model_page.specs.declared.content.Content.{Content}
-use Rattle.model_device.specs.{after_write, after_writes, settled}
-use Rattle.model_device.specs.Disk.{Disk}
+use Rattle.model_device.specs.{after_write, after_writes, settled, Disk}
 use Rattle.model_device.specs.declared.write.Write.{Write}
 use Rattle.model_store.specs.{IsFair}
-use Rattle.model_parts.specs.Batch.{Fresh, IsNew, new_text, slots_write, place_writes}
-use Rattle.model_parts.specs.BatchKept.{after_batch}
+use Rattle.model_parts.specs.Batch.{Fresh, new_text, slots_write, place_writes}
+use Rattle.model_parts.specs.Stored.{IsNew, IsKnown, copied, KeepsPage, ImageHolds, Keeps, Stored, after_batch, AreNotNewer}
 use Rattle.model_parts.specs.BatchFits.{IsFreshPage, IsBatch}
-use Rattle.model_parts.specs.Stored.{IsKnown, copied, KeepsPage, ImageHolds, Keeps, Stored}
-use Rattle.model_parts.specs.BatchKept.{AreNotNewer}
 use Rattle.model_parts.proofs.Stretches.{AreApart, ArePut, fair-apart, fair-put, apart-put, take-apart, take-put, pieces-apart, pieces-has, length-after, stretch-piece}
 use Rattle.model_parts.proofs.Writes.{HasSizes, sizes-from, slots-apart, slots-put, places-apart, places-put, places-has, in-or, after-none, after-some}
 use Rattle.model_parts.proofs.Kept.{same-place, same-copy, same-copied, broken-place, broken-copy, place-new, copy-new, IsCopyOf, copy-is}

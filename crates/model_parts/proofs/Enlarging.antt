@@ -1,28 +1,23 @@
 -- The data device of a store of an earlier format gets the slots and places of a run: the old slots and places stay as
 -- they are, and where an old place lies in a new slot it passes as a copy of its own page alone.
-use Rattle.std.proofs.Common.{◌≡◌, ◌≤◌, ◌<◌, ◌+◌, ◌-◌, ◌⊎◌, ℕ, inl, inr, List, [], length, replicate, Some, None}
-use Rattle.std.proofs.Common.{false, refl, sym, ap, subst, ◌∙◌, ⊎_elim, arith}
+use Rattle.std.proofs.Common.{◌≡◌, ◌≤◌, ◌<◌, ◌+◌, ◌-◌, ◌⊎◌, ℕ, inl, inr, List, [], length, replicate, Some, None, false, refl, sym, ap, subst, ◌∙◌, ⊎_elim, arith}
 use Rattle.std.proofs.lemmas.Bool.{cases_lt}
 use Rattle.model_base.specs.{IsWithinLimits, run_shape}
 use Rattle.model_base.specs.declared.limits.TheConstants.{SLOTS}
 use Rattle.model_base.specs.declared.shape.Shape.{Shape}
 use Rattle.model_base.proofs.ShapeLimits.{run_within}
-use Rattle.model_device.specs.{IsImage, settled}
-use Rattle.model_device.specs.Disk.{Disk}
-use Rattle.model_page.specs.{copy_lsn, copy_lsn_by, data_device_length, IsInPlace, page_check, place_bytes}
-use Rattle.model_page.specs.{place_lsn_by, slot_bytes, stretch_at, user_part}
+use Rattle.model_device.specs.{IsImage, settled, Disk}
+use Rattle.model_page.specs.{copy_lsn, copy_lsn_by, data_device_length, IsInPlace, page_check, place_bytes, place_lsn_by, slot_bytes, stretch_at, user_part}
 use Rattle.model_page.specs.declared.content.Content.{Content}
 use Rattle.model_page.specs.declared.page.PageState.{PageState}
 use Rattle.model_page.specs.declared.page.PageState.TheVariants.{Blank, Sound, Broken}
 use Rattle.model_page.proofs.Kept.{same_content}
-use Rattle.model_store.specs.{IsOrderly}
-use Rattle.model_store.specs.Reading.{Reading}
+use Rattle.model_store.specs.{IsOrderly, Reading}
 use Rattle.model_store.proofs.Fairness.{base-fair}
-use Rattle.model_parts.specs.BatchKept.{read_as}
+use Rattle.model_parts.specs.Stored.{read_as, copied, IsUpTo, Stored}
 use Rattle.model_parts.specs.Enlarging.{IsEnlarged, KeepsStretches}
 use Rattle.model_parts.specs.Opened.{KeepsOpened}
 use Rattle.model_parts.specs.Ready.{IsReadyBy}
-use Rattle.model_parts.specs.Stored.{copied, IsUpTo, Stored}
 use Rattle.model_parts.proofs.Batches.{copy-named}
 use Rattle.model_parts.proofs.DataImages.{IsReady, ready-from, stored-from}
 use Rattle.model_parts.proofs.Keeping.{ready-keeps}

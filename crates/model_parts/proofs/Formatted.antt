@@ -8,8 +8,7 @@ use Rattle.model_base.proofs.ShapeLimits.{whole_sectors}
 use Rattle.model_base.specs.{IsWithinLimits}
 use Rattle.model_base.specs.declared.shape.Shape.{Shape}
 use Rattle.model_base.specs.declared.limits.TheConstants.{BLOCK_SIZE, FIRST_DATA_LSN, MIN_LOG_BLOCKS, START_LSN}
-use Rattle.model_device.specs.{sector, settled}
-use Rattle.model_device.specs.Disk.{Disk}
+use Rattle.model_device.specs.{sector, settled, Disk}
 use Rattle.model_log.specs.{checkpoint_text, fits_checksum, head_of, head_text, IsLayout, log_block, log_device_length, newer, newest_checkpoint, place_in, read_block, read_checkpoint, read_head, ring_start, round_of, run_layout, sector_of, run_format}
 use Rattle.model_log.specs.declared.head.Format.TheVariants.{Two}
 use Rattle.model_log.specs.declared.head.Head.{Head}
@@ -28,12 +27,10 @@ use Rattle.model_store.specs.declared.refusal.Refusal.TheVariants.{NotFormatted}
 use Rattle.model_store.proofs.Sources.{empty-scan}
 use Rattle.model_store.proofs.Taking.{taken-none}
 use Rattle.model_parts.specs.Changes.{IsUnsealed}
-use Rattle.model_parts.specs.FormattedDevices.{zero_block}
+use Rattle.model_parts.specs.FormattedDevices.{zero_block, IsFormattedLog, IsFormattedData, IsFormatted}
 use Rattle.model_parts.specs.Formatted.{formatted_store}
-use Rattle.model_parts.specs.FormattedDevices.{IsFormattedLog, IsFormattedData, IsFormatted}
 use Rattle.model_parts.specs.Opened.{IsOpenable}
-use Rattle.model_parts.specs.Stored.{copied, IsUpTo}
-use Rattle.model_parts.specs.BatchKept.{IsOpened}
+use Rattle.model_parts.specs.Stored.{copied, IsUpTo, IsOpened}
 use Rattle.model_parts.proofs.Rows.{row_ends, row-sector}
 use Rattle.model_parts.proofs.Stretches.{stretch-piece}
 use Rattle.model_parts.proofs.Unread.{unsealed-checkpoint, unsealed-head, unsealed-unread, zeros-unsealed}

@@ -13,15 +13,13 @@ use Rattle.model_log.specs.declared.layout.Layout.{Layout}
 use Rattle.model_log.specs.{checkpoint_text, fits_checksum, head_of, is_checkpoint, IsInRound, log_block, lsn_at, newer, newest_checkpoint, place_of, read_checkpoint, read_head, sector_of, header_block, run_layout}
 use Rattle.model_log.proofs.CheckpointRound.{checkpoint-reads_back}
 use Rattle.model_log.proofs.Formats.{format-of_run, other-layout, other-tails}
-use Rattle.model_store.specs.{AreFoundIn, IsOrderly, IsReading, read_full, read_tail, taken}
-use Rattle.model_store.specs.Reading.{Reading}
+use Rattle.model_store.specs.{AreFoundIn, IsOrderly, IsReading, read_full, read_tail, taken, Reading}
 use Rattle.model_store.specs.declared.tail.Tail.{Tail}
 use Rattle.model_store.proofs.Taking.{taken-same, unread-full}
 use Rattle.model_store.proofs.Heads.{head-sizes}
 use Rattle.model_parts.specs.Changes.{IsPut, IsPutting, IsUnsealed}
 use Rattle.model_parts.specs.Cleared.{IsCleared}
-use Rattle.model_parts.specs.Held.{IsHeadPlace, other_place}
-use Rattle.model_parts.specs.LogFresh.{IsFresh}
+use Rattle.model_parts.specs.Held.{IsHeadPlace, other_place, IsFresh}
 use Rattle.model_parts.specs.Opened.{found_layout, numbers_taken, ReadsOpened, start_block, start_of}
 use Rattle.model_parts.specs.Rewritten.{IsRewriting, IsRewritten}
 use Rattle.model_parts.proofs.Clearing.{block-sector, clearing-header, cleared-clearing, IsTailIn, ring-from, same-or_not}

@@ -5,23 +5,19 @@ use Rattle.std.proofs.Common.{◌≡◌, ◌+◌, ◌≤◌, ◌⊎◌, ℕ, inl
 use Rattle.model_base.proofs.ShapeLimits.{run_within}
 use Rattle.model_base.specs.declared.shape.Shape.{Shape}
 use Rattle.model_base.specs.{IsWithinLimits, run_shape}
-use Rattle.model_device.specs.{sector, settled}
-use Rattle.model_device.specs.Disk.{Disk}
+use Rattle.model_device.specs.{sector, settled, Disk}
 use Rattle.model_log.specs.declared.head.Head.TheVariants.{Good}
 use Rattle.model_log.specs.declared.layout.Layout.{Layout}
 use Rattle.model_log.specs.{head_of, layout_of, log_block, newest_checkpoint, read_head, run_format, run_layout, sector_of}
 use Rattle.model_log.proofs.Formats.{run_format-layout, run_format-sizes}
 use Rattle.model_log.proofs.HeadRound.{head-reads_back}
-use Rattle.model_store.specs.{IsFairLog, IsOrderly, read_full, read_tail, taken}
-use Rattle.model_store.specs.Reading.{Reading}
+use Rattle.model_store.specs.{IsFairLog, IsOrderly, read_full, read_tail, taken, Reading}
 use Rattle.model_store.proofs.Taking.{taken-same}
-use Rattle.model_parts.specs.BatchKept.{read_as}
+use Rattle.model_parts.specs.Stored.{read_as, IsUpTo, Stored}
 use Rattle.model_parts.specs.Changes.{IsPut, IsPutting}
 use Rattle.model_parts.specs.Enlarging.{IsHeaded, IsHeading, run_head}
-use Rattle.model_parts.specs.Held.{IsHeadPlace}
-use Rattle.model_parts.specs.LogFresh.{IsFresh}
+use Rattle.model_parts.specs.Held.{IsHeadPlace, IsFresh}
 use Rattle.model_parts.specs.Opened.{KeepsOpened, numbers_taken, ReadsOpened, start_block, start_of}
-use Rattle.model_parts.specs.Stored.{IsUpTo, Stored}
 use Rattle.model_parts.proofs.Clearing.{block-sector, ring-from}
 use Rattle.model_parts.proofs.Keeping.{fresh-next, stored-image_by}
 use Rattle.model_parts.proofs.Migration.{head-first}

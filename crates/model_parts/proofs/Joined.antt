@@ -8,7 +8,7 @@ use Rattle.std.proofs.Math.Nat.{zero-mul}
 use Rattle.model_base.specs.{user_length}
 use Rattle.model_base.specs.declared.shape.Shape.{Shape}
 use Rattle.model_parts.specs.Batch.{Fresh}
-use Rattle.model_parts.specs.BatchKept.{batch_of}
+use Rattle.model_parts.specs.Stored.{batch_of}
 use Rattle.model_parts.specs.BatchFits.{IsFreshPage, IsBatch, IsWritable}
 use Rattle.model_parts.proofs.Rows.{one-more-row, row_ends}
 

@@ -3,8 +3,7 @@ use Rattle.std.proofs.Common.{◌≡◌, ◌⊎◌, ◌%◌, ℕ, ◌+◌, inl, 
 use Rattle.std.specs.List.{slice_index_or as get_or}
 use Rattle.model_base.specs.{run_shape}
 use Rattle.model_base.specs.declared.shape.Shape.{Shape}
-use Rattle.model_device.specs.{IsImage, sector, settled}
-use Rattle.model_device.specs.Disk.{Disk}
+use Rattle.model_device.specs.{IsImage, sector, settled, Disk}
 use Rattle.model_device.proofs.Images.{settled_images}
 use Rattle.model_log.specs.{checkpoint_text, IsInRound, place_of, run_layout, run_format, newest_checkpoint}
 use Rattle.model_log.specs.declared.head.Format.TheVariants.{One}
@@ -12,20 +11,18 @@ use Rattle.model_log.proofs.Formats.{of_run}
 use Rattle.model_log.specs.declared.layout.Layout.{Layout}
 use Rattle.model_page.specs.{blank_page, stretch_at}
 use Rattle.model_page.specs.declared.content.Content.{Content}
-use Rattle.model_store.specs.{AreFoundIn, IsFair, IsFairLog, IsOrderly, IsReading, read_full, taken}
-use Rattle.model_store.specs.Reading.{Reading}
+use Rattle.model_store.specs.{AreFoundIn, IsFair, IsFairLog, IsOrderly, IsReading, read_full, taken, Reading}
 use Rattle.model_store.specs.declared.tail.Tail.{Tail}
 use Rattle.model_store.proofs.Taking.{taken-none_two}
 use Rattle.model_parts.specs.Changes.{IsPut, IsPutting}
-use Rattle.model_parts.specs.Found.{KeepsHead}
+use Rattle.model_parts.specs.Formatted.{KeepsHead}
 use Rattle.model_parts.specs.Cleared.{IsCleared, IsClearing}
-use Rattle.model_parts.specs.LogFresh.{IsFresh}
+use Rattle.model_parts.specs.Held.{IsFresh}
 use Rattle.model_parts.specs.Migrating.{IsMigrating}
 use Rattle.model_parts.specs.Opened.{found_layout, IsOpenable, KeepsOpened, numbers_taken, ReadsOpened, start_block, start_of}
 use Rattle.model_parts.specs.Ready.{IsReadyBy}
 use Rattle.model_parts.specs.Rewritten.{IsRewriting, IsRewritten}
-use Rattle.model_parts.specs.Stored.{HasNothingPending, IsUpTo, Stored}
-use Rattle.model_parts.specs.BatchKept.{read_as}
+use Rattle.model_parts.specs.Stored.{HasNothingPending, IsUpTo, Stored, read_as}
 use Rattle.model_parts.proofs.Alike.{kept-head_reads}
 use Rattle.model_parts.proofs.Clearing.{block-sector}
 use Rattle.model_parts.proofs.Fresh.{marking-reads, some-taken}

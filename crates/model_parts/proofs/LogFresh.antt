@@ -7,15 +7,13 @@ use Rattle.std.proofs.lemmas.List.Elements.{All-nil}
 use Rattle.model_base.specs.{field}
 use Rattle.model_base.specs.declared.limits.TheConstants.{BLOCK_SIZE, FIRST_DATA_LSN, LSN_LIMIT, START_LSN}
 use Rattle.model_base.specs.declared.shape.Shape.{Shape}
-use Rattle.model_device.specs.{IsSectorWrite, sector, settled}
-use Rattle.model_device.specs.Disk.{Disk}
+use Rattle.model_device.specs.{IsSectorWrite, sector, settled, Disk}
 use Rattle.model_log.specs.declared.layout.Layout.{Layout}
 use Rattle.model_log.specs.{fits_checksum, is_checkpoint, newer, place_in, place_of, read_checkpoint, read_head, run_layout, sector_of}
 use Rattle.model_log.proofs.Places.{HasBlocks}
 use Rattle.model_log.proofs.Runs.{run-none}
 use Rattle.model_parts.specs.declared.marks.LogMarks.{LogMarks}
-use Rattle.model_parts.specs.Held.{AreInOrder, IsBeside, IsBlockPlace, IsLive, IsTail, IsWritten, LogHoldsWith, MayStand, other_place}
-use Rattle.model_parts.specs.LogFresh.{IsFresh}
+use Rattle.model_parts.specs.Held.{AreInOrder, IsBeside, IsBlockPlace, IsLive, IsTail, IsWritten, LogHoldsWith, MayStand, other_place, IsFresh}
 use Rattle.model_parts.specs.Marks.{first_marks, first_tails}
 use Rattle.model_parts.proofs.LogImages.{when_less, when_not_less}
 use Rattle.model_parts.proofs.Torn.{synced-stands}

@@ -1,7 +1,7 @@
 -- What a log device holds of a run it holds of a longer one.
 use Rattle.std.proofs.Common.{ℕ, inl, inr, List, ◌++◌, ⊎_elim}
 use Rattle.model_base.specs.declared.shape.Shape.{Shape}
-use Rattle.model_device.specs.Disk.{Disk}
+use Rattle.model_device.specs.{Disk}
 use Rattle.model_log.specs.declared.group.Whole.{Whole}
 use Rattle.model_log.specs.declared.layout.Layout.{Layout}
 use Rattle.model_log.specs.{block_of, IsAtDataStart, IsBoundary, IsRunOf, run_layout, spans_of}

@@ -4,9 +4,8 @@ use Rattle.model_base.specs.declared.shape.Shape.{Shape}
 use Rattle.model_page.specs.{place_bytes, place_lsn, slot_bytes, user_part}
 use Rattle.model_page.specs.declared.content.Content.{Content}
 use Rattle.model_parts.proofs.Kept.{same-copy}
-use Rattle.model_store.specs.{IsNoNewerCopy, IsOrderly, IsReadPage}
-use Rattle.model_store.specs.Reading.{Reading}
-use Rattle.model_parts.specs.Mended.{AreRepaired, AreHeld}
+use Rattle.model_store.specs.{IsNoNewerCopy, IsOrderly, IsReadPage, Reading}
+use Rattle.model_parts.specs.Repair.{AreRepaired, AreHeld}
 use Rattle.model_parts.proofs.Pages.{page-below}
 
 pub repaired-orderly : (log_bytes old new : List ℕ) (opened : Reading) → IsOrderly log_bytes old opened → AreRepaired opened.shape old new → IsOrderly log_bytes new opened

@@ -16,14 +16,12 @@ use Rattle.model_log.proofs.HeadRound.{head-reads_back}
 use Rattle.model_log.proofs.Layouts.{has-blocks, is_layout_of}
 use Rattle.model_log.proofs.Places.{place-within, sector-place}
 use Rattle.model_log.proofs.Formats.{of_run, run_format-sizes}
-use Rattle.model_store.specs.{AreFoundIn, IsOrderly, read_full, read_tail, taken}
-use Rattle.model_store.specs.Reading.{Reading}
+use Rattle.model_store.specs.{AreFoundIn, IsOrderly, read_full, read_tail, taken, Reading}
 use Rattle.model_store.specs.declared.tail.Tail.{Tail}
 use Rattle.model_store.proofs.Taking.{taken-none_one, taken-none_two, taken-same_one}
 use Rattle.model_parts.specs.Changes.{IsErased, IsErasing, IsPut, IsPutting, IsUnsealed}
 use Rattle.model_parts.specs.Cleared.{IsCleared}
-use Rattle.model_parts.specs.Held.{IsHeadPlace, other_place}
-use Rattle.model_parts.specs.LogFresh.{IsFresh}
+use Rattle.model_parts.specs.Held.{IsHeadPlace, other_place, IsFresh}
 use Rattle.model_parts.specs.Migrating.{IsLogSector, IsMigrated, IsMigrating, IsNearlyMigrated}
 use Rattle.model_parts.specs.Opened.{found_layout, numbers_taken, ReadsOpened, start_block, start_of}
 use Rattle.model_parts.specs.Rewritten.{IsRewritten}

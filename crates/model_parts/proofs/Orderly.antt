@@ -5,12 +5,9 @@ use Rattle.std.proofs.lemmas.Bool.{cases_lt}
 use Rattle.std.proofs.lemmas.Option.{slice_get-get_or}
 use Rattle.model_page.specs.{blank_page, IsInPlace}
 use Rattle.model_page.specs.declared.content.Content.{Content}
-use Rattle.model_device.specs.{settled}
-use Rattle.model_device.specs.Disk.{Disk}
-use Rattle.model_store.specs.{IsNoNewerCopy, IsOrderly}
-use Rattle.model_store.specs.Reading.{Reading}
-use Rattle.model_parts.specs.Stored.{copied}
-use Rattle.model_parts.specs.BatchKept.{IsOpened, read_as}
+use Rattle.model_device.specs.{settled, Disk}
+use Rattle.model_store.specs.{IsNoNewerCopy, IsOrderly, Reading}
+use Rattle.model_parts.specs.Stored.{copied, IsOpened, read_as}
 use Rattle.model_page.proofs.Kept.{same_content}
 
 pub orderly-opened : (log : List ℕ) (reading : Reading) (was : ℕ → Content) (disk : Disk) → IsOrderly log disk.base reading → disk ≡ settled disk.base

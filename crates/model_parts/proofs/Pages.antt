@@ -1,19 +1,15 @@
 -- The data device in opening, image by image: places repaired, batches written, and all pages as they were read.
 use Rattle.std.proofs.Common.{◌≡◌, ◌<◌, ℕ, zero, suc, inl, inr, false, List, [], ◌∷◌, length, Some, sym, ap, subst, ◌∙◌, ⊎_elim, arith}
-use Rattle.std.specs.List.{slice_get}
-use Rattle.std.specs.List.{slice_index_or as get_or}
-use Rattle.model_device.specs.Disk.{Disk}
+use Rattle.std.specs.List.{slice_get, slice_index_or as get_or}
+use Rattle.model_device.specs.{Disk}
 use Rattle.model_page.specs.{blank_page, copy_lsn, IsKept, slot_bytes, user_part}
 use Rattle.model_page.specs.declared.content.Content.{Content}
-use Rattle.model_parts.specs.Batch.{Fresh, IsNew}
+use Rattle.model_parts.specs.Batch.{Fresh}
+use Rattle.model_parts.specs.Stored.{IsNew, copied, ImageHolds, IsUpTo, Keeps, KeepsPage, Stored, read_as, IsWrittenOver}
 use Rattle.model_parts.specs.Repair.{KeepsAll}
-use Rattle.model_parts.specs.Stored.{copied, ImageHolds, IsUpTo, Keeps, KeepsPage, Stored}
-use Rattle.model_parts.specs.BatchKept.{read_as}
 use Rattle.model_parts.proofs.Kept.{same-copy}
-use Rattle.model_store.specs.{HasOldCopies, IsFair, IsNoNewerCopy, IsOrderly, IsReading, IsReadPage}
-use Rattle.model_store.specs.Reading.{Reading}
+use Rattle.model_store.specs.{HasOldCopies, IsFair, IsNoNewerCopy, IsOrderly, IsReading, IsReadPage, Reading}
 use Rattle.model_parts.specs.Rewritten.{IsRewriting, IsRewritten}
-use Rattle.model_parts.specs.Written.{IsWrittenOver}
 
 -- the page of that number, as it was read
 page-at : (pages : List Content) (p : ℕ) (other page : Content) → slice_get pages p ≡ Some page → get_or pages p other ≡ page

@@ -5,15 +5,12 @@ use Rattle.std.specs.List.{slice_get}
 use Rattle.model_base.specs.declared.shape.Shape.{Shape}
 use Rattle.model_page.specs.{copy_lsn, data_device_length, slot_bytes, user_part}
 use Rattle.model_page.specs.declared.content.Content.{Content}
-use Rattle.model_device.specs.{after_write, after_writes, IsPutOrNot, settled, synced, written}
-use Rattle.model_device.specs.Disk.{Disk}
+use Rattle.model_device.specs.{after_write, after_writes, IsPutOrNot, settled, synced, written, Disk}
 use Rattle.model_device.specs.declared.write.Write.{Write}
-use Rattle.model_parts.specs.Batch.{Fresh, IsNew, slots_write, place_writes}
-use Rattle.model_parts.specs.BatchKept.{after_batch}
+use Rattle.model_parts.specs.Batch.{Fresh, slots_write, place_writes}
+use Rattle.model_parts.specs.Stored.{IsNew, IsKnown, copied, KeepsPage, ImageHolds, IsSteady, Keeps, Stored, IsUpTo, IsLater, after_batch, AreNotNewer, IsOpened, IsBefore, KeepsPages}
 use Rattle.model_parts.specs.BatchFits.{IsBatch}
 use Rattle.model_parts.specs.Steps.{written_all, ArePutOrNot, after_both, FailsBoth}
-use Rattle.model_parts.specs.Stored.{IsKnown, copied, KeepsPage, ImageHolds, IsSteady, Keeps, Stored, IsUpTo, IsLater}
-use Rattle.model_parts.specs.BatchKept.{AreNotNewer, IsOpened, IsBefore, KeepsPages}
 use Rattle.model_parts.proofs.Writes.{HasSizes, sizes-from, in-or, after-none, after-some}
 use Rattle.model_parts.proofs.DataImages.{IsReady, ready-from, IsSlotsOrNot, keeps-slots, stored-from, IsCopied, copied-from, AreOnPlaces, places-on, take-on, places-pending, placed-from, new-at}
 use Rattle.model_base.specs.{IsWithinLimits}

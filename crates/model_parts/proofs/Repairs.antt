@@ -7,8 +7,7 @@ use Rattle.model_page.specs.{copy_lsn, copy_lsn_by, data_device_length, HasBestC
 use Rattle.model_page.specs.declared.content.Content.{Content}
 use Rattle.model_page.specs.declared.page.PageState.{PageState}
 use Rattle.model_page.specs.declared.page.PageState.TheVariants.{Blank, Sound, Broken}
-use Rattle.model_device.specs.{after_write, settled}
-use Rattle.model_device.specs.Disk.{Disk}
+use Rattle.model_device.specs.{after_write, settled, Disk}
 use Rattle.model_device.specs.declared.write.Write.{Write}
 use Rattle.model_store.specs.{IsFair}
 use Rattle.model_parts.specs.Repair.{SameSlots, IsCopyPut, IsPutBack, FailsPutBack, repair_write, KeepsSame, IsRepairable, KeepsAll, IsRepaired}

@@ -15,8 +15,7 @@ use Rattle.model_log.proofs.Layouts.{is_layout_of}
 use Rattle.model_page.specs.{IsKept}
 use Rattle.model_page.specs.declared.content.Content.{Content}
 use Rattle.model_page.proofs.Kept.{same_kept}
-use Rattle.model_store.specs.{AreFoundIn, AreGroupsOf, groups_start, IsOrderly, IsReading, IsReadPage, IsScan, replayed, Source, taken}
-use Rattle.model_store.specs.Reading.{Reading}
+use Rattle.model_store.specs.{AreFoundIn, AreGroupsOf, groups_start, IsOrderly, IsReading, IsReadPage, IsScan, replayed, Source, taken, Reading}
 use Rattle.model_store.specs.declared.tail.Tail.{Tail}
 use Rattle.model_store.proofs.Ending.{EndsWithin, IsGroupsStart, StartsBehind, start-within, starts-behind}
 use Rattle.model_store.proofs.Folding.{read-not_ahead}

@@ -7,8 +7,7 @@ use Rattle.model_base.specs.declared.shape.Shape.{Shape}
 use Rattle.model_page.specs.{page_check, stretch_at}
 use Rattle.model_page.specs.declared.page.PageState.{PageState}
 use Rattle.model_page.specs.declared.page.PageState.TheVariants.{Blank, Sound, Broken}
-use Rattle.model_device.specs.{after_write, after_writes, IsCovered, IsImage, sector}
-use Rattle.model_device.specs.Disk.{Disk}
+use Rattle.model_device.specs.{after_write, after_writes, IsCovered, IsImage, sector, Disk}
 use Rattle.model_device.specs.declared.write.Write.{Write}
 use Rattle.model_device.proofs.Overwritten.{length-overwritten, part-overwritten_before, part-overwritten_behind, part-overwritten_inside}
 use Rattle.model_store.specs.{IsFair, IsWholeContent}

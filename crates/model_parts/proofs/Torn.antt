@@ -2,8 +2,7 @@
 use Rattle.std.proofs.Common.{◌≡◌, ◌<◌, ◌*◌, ◌⊎◌, ℕ, suc, zero, inl, inr, false, List, [], ◌∷◌, ◌++◌, length, take, refl, sym, ap, subst, ◌∙◌, ⊎_elim}
 use Rattle.std.proofs.lemmas.List.Elements.{All-append, All-cons, All-head, All-nil, All-tail}
 use Rattle.std.proofs.lemmas.Bool.{cases_Bool}
-use Rattle.model_device.specs.{after_write, after_writes, AreSectorWrites, Covers, FailsWrite, IsCovered, IsPutOrNot, IsSectorWrite, IsWrittenBy, sector, synced, written, written_sector}
-use Rattle.model_device.specs.Disk.{Disk}
+use Rattle.model_device.specs.{after_write, after_writes, AreSectorWrites, Covers, FailsWrite, IsCovered, IsPutOrNot, IsSectorWrite, IsWrittenBy, sector, synced, written, written_sector, Disk}
 use Rattle.model_device.specs.MayHold.{MayHold}
 use Rattle.model_device.specs.declared.write.Write.{Write}
 use Rattle.model_device.proofs.Images.{sector-after_write}

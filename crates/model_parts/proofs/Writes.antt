@@ -12,7 +12,7 @@ use Rattle.model_base.specs.declared.shape.Shape.{Shape}
 use Rattle.model_page.specs.{data_device_length}
 use Rattle.model_page.specs.declared.content.Content.{Content}
 use Rattle.model_parts.specs.Batch.{Fresh, new_text, batch_text, slots_write, place_write, place_writes}
-use Rattle.model_parts.specs.BatchKept.{after_batch}
+use Rattle.model_parts.specs.Stored.{after_batch}
 use Rattle.model_parts.specs.BatchFits.{IsFreshPage, IsBatch}
 use Rattle.model_parts.proofs.Stretches.{IsApart, IsPut, AreApart, ArePut, HasPut}
 use Rattle.model_parts.proofs.Batches.{length-new_text, length-batch_text, text-at}

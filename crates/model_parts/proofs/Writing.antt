@@ -5,8 +5,7 @@ use Rattle.std.proofs.lemmas.Bool.{cases_lt}
 use Rattle.std.proofs.lemmas.Bool.Decides.{nat_tests}
 use Rattle.model_base.specs.declared.shape.Shape.{Shape}
 use Rattle.model_base.specs.declared.limits.TheConstants.{START_LSN}
-use Rattle.model_device.specs.{after_write, Covers, IsSectorWrite, sector, written, written_sector}
-use Rattle.model_device.specs.Disk.{Disk}
+use Rattle.model_device.specs.{after_write, Covers, IsSectorWrite, sector, written, written_sector, Disk}
 use Rattle.model_device.specs.declared.write.Write.{Write}
 use Rattle.model_device.proofs.Images.{sector-after_write}
 use Rattle.model_device.proofs.Overwritten.{length-overwritten, part-overwritten_inside}
@@ -20,8 +19,7 @@ use Rattle.model_store.specs.{read_full}
 use Rattle.model_parts.specs.declared.marks.LogMarks.{LogMarks}
 use Rattle.model_parts.specs.declared.marks.TailMarks.{TailMarks}
 use Rattle.model_parts.specs.Held.{AreInOrder, HoldsTail, IsBeside, IsFullBlock, IsHeadPlace, IsLive, IsTail, IsTailBlock, IsWritten, LogHoldsWith, other_place}
-use Rattle.model_parts.specs.Marks.{after_given, after_written}
-use Rattle.model_parts.specs.NextMarks.{tails_written}
+use Rattle.model_parts.specs.Marks.{after_given, after_written, tails_written}
 use Rattle.model_parts.proofs.LogImages.{beside-kept, header-below}
 use Rattle.model_parts.proofs.Puts.{adds-holds, covered, full-puts, full-wider, IsOneOf, MovesOn, not-below, only-tail, place-past, place-wider, tail-puts, tail-text, tail-wider, WritesFull, WritesTail}
 use Rattle.model_parts.proofs.Tails.{tail-is}

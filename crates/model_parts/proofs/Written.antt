@@ -2,8 +2,7 @@
 use Rattle.std.proofs.Common.{◌≡◌, ◌+◌, ℕ, zero, suc, List, [], ◌∷◌, ◌++◌, length, take, Some, refl, sym, ap, ◌∙◌, ⊎_elim, append_assoc, add-one, arith}
 use Rattle.std.specs.List.{slice_get}
 use Rattle.std.proofs.lemmas.List.{append-nil, take_all}
-use Rattle.model_device.specs.{after_writes, settled, synced, written}
-use Rattle.model_device.specs.Disk.{Disk}
+use Rattle.model_device.specs.{after_writes, settled, synced, written, Disk}
 use Rattle.model_device.specs.declared.write.Write.{Write}
 use Rattle.model_parts.specs.Steps.{written_all, ArePutOrNot}
 

@@ -7,7 +7,7 @@ use Rattle.model_page.specs.{blank_page, copy_lsn, copy_lsn_by, data_device_leng
 use Rattle.model_page.specs.declared.page.PageState.TheVariants.{Blank}
 use Rattle.model_device.specs.{settled}
 use Rattle.model_base.specs.{IsWithinLimits, user_length}
-use Rattle.model_parts.specs.BatchKept.{IsOpened}
+use Rattle.model_parts.specs.Stored.{IsOpened}
 use Rattle.model_parts.proofs.Stretches.{stretch-piece}
 use Rattle.model_parts.proofs.Writes.{sizes-from, stretch-ends}
 

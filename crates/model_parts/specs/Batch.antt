@@ -1,5 +1,5 @@
 -- The pages of a batch, and how they are written: side by side into the slots, then each into its place.
-use Rattle.std.specs.Prelude.{ℕ, ◌≡◌, ◌+◌, ◌*◌, List, [], ◌∷◌, ◌++◌, map, Some, slice_get}
+use Rattle.std.specs.Prelude.{ℕ, ◌+◌, ◌*◌, List, [], ◌∷◌, ◌++◌, map}
 use Rattle.model_base.specs.declared.shape.Shape.{Shape}
 use Rattle.model_page.specs.{page_text}
 use Rattle.model_page.specs.declared.content.Content.{Content}
@@ -10,11 +10,6 @@ pub record Fresh : Type 0 where
   pub page : ℕ
   pub content : Content
 
--- the batch has this for the page
-pub record IsNew (batch : List Fresh) (p : ℕ) (content : Content) : Type 0 where
-  pub i : ℕ
-  pub at : slice_get batch i ≡ Some (record { page = p; content = content })
-
 -- the bytes of a page that is to be written
 abbrev pub new_text : Shape → Fresh → List ℕ
 new_text shape new = page_text new.page shape.space new.content.lsn new.content.user
@@ -24,15 +19,12 @@ abbrev pub batch_text : Shape → List Fresh → List ℕ
 batch_text shape [] = []
 batch_text shape (new ∷ batch) = new_text shape new ++ batch_text shape batch
 
--- the write of the slots
 abbrev pub slots_write : Shape → List Fresh → Write
 slots_write shape batch = record { at = 0; bytes = batch_text shape batch }
 
--- where the place of a page is
 abbrev pub place_at : Shape → ℕ → ℕ
 place_at shape page = (shape.slots + page) * shape.page_size
 
--- the write of a place
 abbrev pub place_write : Shape → Fresh → Write
 place_write shape new = record { at = place_at shape new.page; bytes = new_text shape new }
 

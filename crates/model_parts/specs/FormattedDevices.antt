@@ -2,11 +2,10 @@
 use Rattle.std.specs.Prelude.{ℕ, ◌≡◌, ◌≤◌, ◌<◌, ◌*◌, List, length, replicate}
 use Rattle.model_base.specs.declared.shape.Shape.{Shape}
 use Rattle.model_base.specs.declared.limits.TheConstants.{BLOCK_SIZE, START_LSN}
-use Rattle.model_device.specs.{sector}
-use Rattle.model_device.specs.Disk.{Disk}
+use Rattle.model_device.specs.{sector, Disk}
 use Rattle.model_log.specs.{checkpoint_text, head_text, log_device_length, run_format, run_layout}
 use Rattle.model_page.specs.{data_device_length}
-use Rattle.model_parts.specs.AtRest.{IsAtRest}
+use Rattle.model_parts.specs.Opened.{IsAtRest}
 use Rattle.model_parts.specs.Held.{IsHeadPlace}
 
 -- a block of zeros

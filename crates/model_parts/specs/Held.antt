@@ -1,13 +1,13 @@
 -- What a log device holds of a run of groups, in whatever a crash may leave of it that is fair.
+-- A log device on which a run can start.
 use Rattle.std.specs.Prelude.{ℕ, ◌≡◌, ◌≤◌, ◌<◌, ◌+◌, ◌-◌, ◌%◌, ◌⊎◌, false, List, length, Option, Some, None}
 use Rattle.model_base.specs.{field}
 use Rattle.model_base.specs.declared.shape.Shape.{Shape}
 use Rattle.model_base.specs.declared.limits.TheConstants.{BLOCK_SIZE, START_LSN}
-use Rattle.model_device.specs.{AreSectorWrites, IsCovered, sector}
-use Rattle.model_device.specs.Disk.{Disk}
+use Rattle.model_device.specs.{AreSectorWrites, IsCovered, sector, settled, Disk}
 use Rattle.model_device.specs.MayHold.{MayHold}
 use Rattle.model_log.specs.declared.group.Whole.{Whole}
-use Rattle.model_log.specs.{block_of, fits_checksum, IsAtDataStart, IsBoundary, IsBoundaryBlock, IsInRound, IsRunOf, IsTailPlace, log_device_length, place_of, read_checkpoint, read_head, round_of, run_format, run_layout, sector_of, spans_of, turn_of}
+use Rattle.model_log.specs.{block_of, fits_checksum, IsAtDataStart, IsBoundary, IsBoundaryBlock, IsInRound, IsRunOf, IsTailPlace, log_device_length, place_of, read_checkpoint, read_head, round_of, run_format, run_layout, sector_of, spans_of, turn_of, newest_checkpoint}
 use Rattle.model_log.specs.declared.head.Head.TheVariants.{Good}
 use Rattle.model_log.specs.declared.layout.Layout.{Layout}
 use Rattle.model_log.specs.declared.layout.TheConstants.{BLOCK_HEADER}
@@ -146,3 +146,16 @@ pub record IsWritten (shape : Shape) (s : ℕ) (wholes : List Whole) (marks : Lo
 pub record IsLive (shape : Shape) (s : ℕ) (wholes : List Whole) (marks : LogMarks) (tails : TailMarks) (disk : Disk) : Type 0 where
   pub holds : LogHoldsWith shape s wholes marks tails disk
   pub is_written : IsWritten shape s wholes marks tails disk
+
+-- Nothing is pending on a log device. The newest checkpoint is of that number and stands at the block of the start.
+-- No full block stands in its place from there up to one round on, and the tail blocks fit nowhere from there on, however
+-- far.
+pub record IsFresh (shape : Shape) (start number : ℕ) (disk : Disk) : Type 0 where
+  pub long : log_device_length shape ≤ length disk.reads
+  pub heads : (k : ℕ) → IsHeadPlace k → read_head (sector k disk.reads) ≡ Good (run_format shape) shape
+  pub nothing_pending : disk ≡ settled disk.reads
+  pub newest : newest_checkpoint (run_layout shape) disk.reads ≡ Some (number, start - BLOCK_HEADER)
+  pub unread : (b : ℕ) → IsInRound (run_layout shape) (start - BLOCK_HEADER) b
+      → read_full b (sector (sector_of (run_layout shape) b) disk.reads) ≡ None
+  pub no_tail : (k : ℕ) → IsTailPlace k → (b : ℕ) → b % BLOCK_SIZE ≡ 0 → start - BLOCK_HEADER ≤ b
+      → read_tail b (sector k disk.reads) ≡ None

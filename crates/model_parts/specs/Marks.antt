@@ -1,9 +1,10 @@
 -- The marks of a log device and of its tail blocks, and how each call moves them.
-use Rattle.std.specs.Prelude.{ℕ, ◌<◌, ◌+◌, ◌-◌, ◌%◌, ◌^◌}
+use Rattle.std.specs.Prelude.{ℕ, ◌+◌, ◌-◌, ◌%◌, ◌^◌, nat_lt, if◌then◌else◌}
 use Rattle.model_log.specs.declared.layout.TheConstants.{BLOCK_HEADER, HEADER_BLOCKS}
 use Rattle.model_parts.specs.declared.marks.LogMarks.{LogMarks}
 use Rattle.model_parts.specs.declared.marks.TailMarks.{TailMarks}
 use Rattle.model_base.specs.declared.limits.TheConstants.{BLOCK_SIZE}
+use Rattle.model_log.specs.{block_of, other_tail}
 
 -- from the start of a block to the first data byte of the next one
 abbrev pub NEXT_DATA : ℕ
@@ -46,6 +47,12 @@ first_tails start = record { kept = start; tail = HEADER_BLOCKS + 1; newest = HE
 abbrev pub next_number : ℕ → ℕ
 next_number number = (number + 1) % 2 ^ 64
 
--- it hasn't gone round
-abbrev pub HasNextNumber : LogMarks → Type 0
-HasNextNumber marks = marks.number + 1 < 2 ^ 64
+-- after `write_to` with this mark answered Ok: where the mark has an incomplete block, that went to the other tail block
+-- than the one that holds the newest version made stable
+abbrev pub tails_written : ℕ → TailMarks → TailMarks
+tails_written mark tails =
+    if nat_lt (block_of mark + BLOCK_HEADER) mark then record tails { newest = other_tail tails.tail } else tails
+
+-- after a good sync, be it a checkpoint's
+abbrev pub tails_synced : ℕ → TailMarks → TailMarks
+tails_synced written tails = record { kept = written; tail = tails.newest; newest = tails.newest }

@@ -1,15 +1,22 @@
+-- A device before it is opened or formatted.
 -- What opening a store needs, and what it leaves to be read wherever it ends.
-use Rattle.std.specs.Prelude.{ℕ, ◌≡◌, ◌≤◌, ◌<◌, ◌+◌, ◌-◌, ◌⊎◌, List, []}
+-- A store that is opened again, after a crash in opening.
+use Rattle.std.specs.Prelude.{length, ℕ, ◌≡◌, ◌≤◌, ◌<◌, ◌+◌, ◌-◌, ◌⊎◌, List, [], ◌^◌}
+use Rattle.model_device.specs.{AreSectorWrites, HasOneImage, IsImage, Disk}
 use Rattle.model_base.specs.{run_shape}
-use Rattle.model_device.specs.Disk.{Disk}
 use Rattle.model_log.specs.{layout_of, start_after}
 use Rattle.model_log.specs.declared.head.Format.{Format}
 use Rattle.model_log.specs.declared.head.Format.TheVariants.{One, Two, Three}
 use Rattle.model_log.specs.declared.layout.Layout.{Layout}
 use Rattle.model_log.specs.declared.layout.TheConstants.{BLOCK_HEADER}
-use Rattle.model_parts.specs.AtRest.{IsAtRest}
-use Rattle.model_store.specs.{HasOldCopies, IsFair, IsFairLog, IsOrderly, IsReading}
-use Rattle.model_store.specs.Reading.{Reading}
+use Rattle.model_store.specs.{HasOldCopies, IsFair, IsFairLog, IsOrderly, IsReading, Reading}
+use Rattle.model_base.specs.declared.limits.TheConstants.{LSN_LIMIT}
+
+-- the device has one image, and reads give it; what was written since the last sync is whole sectors
+pub record IsAtRest (disk : Disk) : Type 0 where
+  pub one_image : HasOneImage disk disk.reads
+  pub reads : IsImage disk disk.reads
+  pub sectors : AreSectorWrites (length disk.base) disk.writes
 
 -- Both devices are at rest, and the store on them is in order and is read as this.
 pub record IsOpenable (opened : Reading) (log_disk data_disk : Disk) : Type 0 where
@@ -65,3 +72,16 @@ abbrev pub KeepsOpened : Reading → Disk → Disk → Type 0
 KeepsOpened opened log_disk data_disk =
     (log_bytes data_bytes : List ℕ) → IsFairLog log_disk log_bytes → IsFair opened.shape data_disk data_bytes
     → ReadsOpened opened log_bytes data_bytes
+
+-- the checkpoints have room for those of opening
+pub record HasRoom (opened : Reading) : Type 0 where
+  pub numbers_left : opened.number + numbers_taken opened.format < 2 ^ 63
+  pub lsns_left : opened.ckpt < LSN_LIMIT - 2 ^ 30
+  pub start_left : start_block opened < LSN_LIMIT - 2 ^ 30
+
+-- the two devices may be opened, with the pages of before
+pub record OpensAgain (opened : Reading) (log_disk data_disk : Disk) : Type 0 where
+  pub reading : Reading
+  pub openable : IsOpenable reading log_disk data_disk
+  pub shape : run_shape reading.shape ≡ run_shape opened.shape
+  pub pages : reading.pages ≡ opened.pages

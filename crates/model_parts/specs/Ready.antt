@@ -2,11 +2,10 @@
 use Rattle.std.specs.Prelude.{◌+◌, [], false}
 use Rattle.model_base.specs.{run_shape}
 use Rattle.model_base.specs.declared.shape.Shape.{Shape}
-use Rattle.model_device.specs.Disk.{Disk}
-use Rattle.model_store.specs.Reading.{Reading}
-use Rattle.model_parts.specs.LogFresh.{IsFresh}
-use Rattle.model_parts.specs.Stored.{IsUpTo, Stored}
-use Rattle.model_parts.specs.BatchKept.{read_as}
+use Rattle.model_device.specs.{Disk}
+use Rattle.model_store.specs.{Reading}
+use Rattle.model_parts.specs.Held.{IsFresh}
+use Rattle.model_parts.specs.Stored.{IsUpTo, Stored, read_as}
 use Rattle.model_parts.specs.Opened.{numbers_taken, start_of}
 
 -- Of this shape the log device has the last checkpoint of opening where the run starts, and nothing is read from there on; each

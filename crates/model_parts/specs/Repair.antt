@@ -1,10 +1,10 @@
 -- What the repair of a page does: the copy that counts is put into its place.
+-- The data device once the places that didn't pass are repaired.
 use Rattle.std.specs.Prelude.{ℕ, ◌≡◌, ◌≢◌, ◌<◌, ◌⊎◌, ◌↔◌, List, length, Some, None}
 use Rattle.model_base.specs.declared.shape.Shape.{Shape}
-use Rattle.model_page.specs.{copy_lsn, HasNoCopy, IsBestCopy, IsKept, place_bytes, place_lsn, slot_bytes}
+use Rattle.model_page.specs.{copy_lsn, HasNoCopy, IsBestCopy, IsKept, place_bytes, place_lsn, slot_bytes, IsInPlace}
 use Rattle.model_page.specs.declared.content.Content.{Content}
-use Rattle.model_device.specs.{IsPutOrNot, settled, synced, written}
-use Rattle.model_device.specs.Disk.{Disk}
+use Rattle.model_device.specs.{IsPutOrNot, settled, synced, written, Disk}
 use Rattle.model_device.specs.declared.write.Write.{Write}
 use Rattle.model_parts.specs.Batch.{place_at}
 use Rattle.model_store.specs.{IsFair}
@@ -61,3 +61,14 @@ pub record IsRepaired (shape : Shape) (page : ℕ) (old new : Disk) : Type 0 whe
   pub passes : place_lsn shape new.base page ≢ None
   pub others : (p : ℕ) → p < shape.pages → p ≢ page → place_bytes shape p new.base ≡ place_bytes shape p old.base
   pub slots : SameSlots shape old.base new.base
+
+-- the kept pages and the slots are those that were, and each place passes
+pub record AreRepaired (shape : Shape) (old new : List ℕ) : Type 0 where
+  pub same_length : length new ≡ length old
+  pub same : KeepsSame shape old new
+  pub slots : (slot : ℕ) → slot < shape.slots → slot_bytes shape slot new ≡ slot_bytes shape slot old
+  pub pass : (p : ℕ) → p < shape.pages → place_lsn shape new p ≢ None
+
+-- what the places hold
+abbrev pub AreHeld : Shape → List ℕ → (ℕ → Content) → Type 0
+AreHeld shape image held = (p : ℕ) → p < shape.pages → IsInPlace shape image p (held p)

@@ -4,8 +4,7 @@ use Rattle.std.specs.Prelude.{ℕ, ◌≡◌, ◌≤◌, ◌⊎◌, List, length
 use Rattle.model_base.specs.declared.shape.Shape.{Shape}
 use Rattle.model_page.specs.{data_device_length, IsKept}
 use Rattle.model_page.specs.declared.content.Content.{Content}
-use Rattle.model_store.specs.{HasOldCopies}
-use Rattle.model_store.specs.Reading.{Reading}
+use Rattle.model_store.specs.{HasOldCopies, Reading}
 
 -- page p is kept as it was kept on the device before, or as it is read
 pub record KeepsEither (shape : Shape) (old new : List ℕ) (p : ℕ) (page : Content) : Type 0 where

@@ -3,14 +3,11 @@ ghost use Rattle.std.specs.Prelude.{ℕ, List, [], ◌≡◌, ◌≤◌, ◌<◌
 ghost use Rattle.model_base.specs.{IsWithinLimits};
 ghost use Rattle.model_base.specs.declared.shape.Shape.{Shape};
 ghost use Rattle.model_parts.specs.Batch.{Fresh};
-ghost use Rattle.model_parts.specs.Stored.{Keeps, Stored, IsUpTo};
-ghost use Rattle.model_parts.specs.BatchKept.{IsOpened, CrashKeeps, read_as};
-ghost use Rattle.model_device.specs.{settled};
-ghost use Rattle.model_device.specs.Disk.{Disk};
+ghost use Rattle.model_parts.specs.Stored.{Keeps, Stored, IsUpTo, IsOpened, CrashKeeps, read_as};
+ghost use Rattle.model_device.specs.{settled, Disk};
 ghost use Rattle.model_page.specs.{blank_page, data_device_length, IsInPlace};
 ghost use Rattle.model_page.specs.declared.content.Content.{Content};
-ghost use Rattle.model_store.specs.{IsFair, IsOrderly};
-ghost use Rattle.model_store.specs.Reading.{Reading};
+ghost use Rattle.model_store.specs.{IsFair, IsOrderly, Reading};
 
 /// Whatever a crash leaves that is fair, each page is kept, as it was or as the batch has it, and as nothing else.
 pub fn crash_keeps()

@@ -2,7 +2,7 @@
 ghost use Rattle.std.specs.Prelude.{◌++◌, ℕ, List};
 ghost use Rattle.model_base.specs.declared.shape.Shape.{Shape};
 ghost use Rattle.model_log.specs.declared.group.Whole.{Whole};
-ghost use Rattle.model_device.specs.Disk.{Disk};
+ghost use Rattle.model_device.specs.{Disk};
 ghost use Rattle.model_log.specs.{IsRunOf};
 ghost use Rattle.model_parts.specs.Held.{LogHolds, LogHoldsWith, IsLive};
 ghost use Rattle.model_store.specs.{IsFairLog};

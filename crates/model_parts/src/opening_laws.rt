@@ -2,32 +2,26 @@
 ghost use Rattle.std.specs.Prelude.{◌≡◌, ◌≢◌, ◌≤◌, ◌+◌, ◌⊎◌, ℕ, List, [], length, false, Option};
 ghost use Rattle.model_base.specs.{IsWithinLimits, run_shape};
 ghost use Rattle.model_base.specs.declared.shape.Shape.{Shape};
-ghost use Rattle.model_device.specs.{Crashes, IsImage, sector, settled};
-ghost use Rattle.model_device.specs.Disk.{Disk};
+ghost use Rattle.model_device.specs.{Crashes, IsImage, sector, settled, Disk};
 ghost use Rattle.model_log.specs.{checkpoint_text, place_of};
 ghost use Rattle.model_log.specs.declared.head.Format.TheVariants.{One};
 ghost use Rattle.model_page.specs.{data_device_length};
 ghost use Rattle.model_page.specs.declared.content.Content.{Content};
-ghost use Rattle.model_parts.specs.Again.{HasRoom, OpensAgain};
+ghost use Rattle.model_parts.specs.Opened.{HasRoom, OpensAgain, IsOpenable, ReadsOpened, KeepsOpened, found_layout, numbers_taken, start_of, start_block};
 ghost use Rattle.model_parts.specs.Batch.{Fresh};
 ghost use Rattle.model_parts.specs.Changes.{IsPut, IsPutting};
-ghost use Rattle.model_parts.specs.Found.{KeepsHead};
+ghost use Rattle.model_parts.specs.Formatted.{KeepsHead, formatted_store};
 ghost use Rattle.model_parts.specs.Cleared.{IsCleared, IsClearing};
-ghost use Rattle.model_parts.specs.Formatted.{formatted_store};
 ghost use Rattle.model_parts.specs.FormattedDevices.{IsFormatted};
-ghost use Rattle.model_parts.specs.LogFresh.{IsFresh};
+ghost use Rattle.model_parts.specs.Held.{IsFresh};
 ghost use Rattle.model_parts.specs.Migrating.{IsMigrated, IsMigrating};
-ghost use Rattle.model_parts.specs.Opened.{IsOpenable, ReadsOpened, KeepsOpened, found_layout, numbers_taken, start_of, start_block};
 ghost use Rattle.model_parts.specs.Enlarging.{IsEnlarged, IsHeaded, IsHeading, KeepsStretches};
 ghost use Rattle.model_parts.specs.Ready.{IsReadyBy};
 ghost use Rattle.model_parts.specs.Repair.{KeepsAll};
 ghost use Rattle.model_parts.specs.Rewritten.{IsRewriting, IsRewritten};
-ghost use Rattle.model_parts.specs.Stored.{IsUpTo, Keeps, Stored};
-ghost use Rattle.model_parts.specs.BatchKept.{read_as};
-ghost use Rattle.model_parts.specs.Written.{IsWrittenOver};
-ghost use Rattle.model_store.specs.{AreFoundIn, IsFair, IsFairLog, IsOrderly, IsReading};
+ghost use Rattle.model_parts.specs.Stored.{IsUpTo, Keeps, Stored, read_as, IsWrittenOver};
+ghost use Rattle.model_store.specs.{AreFoundIn, IsFair, IsFairLog, IsOrderly, IsReading, Reading};
 ghost use Rattle.model_store.specs.declared.tail.Tail.{Tail};
-ghost use Rattle.model_store.specs.Reading.{Reading};
 
 /// While the two header blocks are made alike, the log is read as it was.
 pub fn kept_head_is_read()

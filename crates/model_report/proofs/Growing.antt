@@ -6,8 +6,8 @@ use Rattle.std.proofs.lemmas.List.{append-nil, length_push}
 use Rattle.std.proofs.lemmas.List.Elements.{filter-append}
 use Rattle.model_log.specs.{IsTiled, last_span_end}
 use Rattle.model_script.specs.declared.script.ScriptLine.{ScriptLine}
-use Rattle.model_report.specs.Answered.{HasNoLost, IsAnswered, state_by}
-use Rattle.model_report.specs.Legal.{IsLegal, IsLegalEntry, FitsMarks, FitsMode, entries_of_user, entry_spans}
+use Rattle.model_report.specs.Answered.{HasNoLost, IsAnswered}
+use Rattle.model_report.specs.Legal.{state_by, IsLegal, IsLegalEntry, FitsMarks, FitsMode, entries_of_user, entry_spans}
 use Rattle.model_report.specs.declared.entry.Entry.{Entry}
 use Rattle.model_report.specs.declared.entry.Marks.{Marks}
 use Rattle.model_report.specs.declared.entry.State.TheVariants.{Lost, Flushed, Written, Copied}

@@ -7,28 +7,20 @@ use Rattle.model_store.specs.declared.refusal.Refusal.{Refusal}
 use Rattle.model_store.specs.declared.refusal.Refusal.TheVariants.{SmallLog, NotFormatted, BadFormat, SmallData, NoCheckpoint, BadRecord, PageLost, PageAhead}
 use Rattle.model_script.specs.declared.misfit.Quantity.{Quantity}
 use Rattle.model_script.specs.declared.misfit.Quantity.TheVariants as quantity
-use Rattle.model_report.specs.Line.{line_text}
+use Rattle.model_report.specs.Listing.{line_text}
 use Rattle.model_report.specs.declared.fault.Fault.{Fault}
 use Rattle.model_report.specs.declared.fault.Fault.TheVariants as fault
 
 -- a store that is refused has status 8; a device that is too short is a quantity that doesn't fit, with status 10
 abbrev pub refusal_status : Refusal → ℕ
 refusal_status (SmallLog n) = 10
-refusal_status NotFormatted = 8
-refusal_status (BadFormat n) = 8
 refusal_status (SmallData n) = 10
-refusal_status NoCheckpoint = 8
-refusal_status (BadRecord lsn) = 8
-refusal_status (PageLost p) = 8
-refusal_status (PageAhead p lsn) = 8
+refusal_status refusal = 8
 
 -- an archive from which nothing is restored has status 12; an lsn that it doesn't reach is a quantity that doesn't fit
 abbrev pub restore_status : RestoreRefusal → ℕ
-restore_status Missing = 12
 restore_status (To lsn) = 10
-restore_status (Page p) = 12
-restore_status (Block lsn) = 12
-restore_status (Record lsn) = 12
+restore_status refusal = 12
 
 abbrev pub status_of : Fault → ℕ
 status_of fault.Memory = 1

@@ -1,7 +1,7 @@
 -- Legal histories. A history lists the groups that the users of a script reserved, in lsn order. It is legal where
 -- they follow one another in the log without a gap, each user's groups are those of its lines, in order and once, and
 -- each state is what the marks say.
-use Rattle.std.specs.Prelude.{ℕ, suc, ◌≡◌, ◌≢◌, ◌≤◌, ◌<◌, ◌+◌, ◌==◌, nat_le, List, [], ◌∷◌, length, filter, map, slice_get, Option, Some, None}
+use Rattle.std.specs.Prelude.{ℕ, suc, ◌≡◌, ◌≢◌, ◌≤◌, ◌<◌, ◌+◌, ◌==◌, nat_le, List, [], ◌∷◌, length, filter, map, slice_get, Option, Some, None, if◌then◌else◌}
 use Rattle.std.specs.List.{count_by}
 use Rattle.model_log.specs.{group_length, IsTiled, lsn_of, sn_of, Span}
 use Rattle.model_log.specs.declared.group.Whole.{Whole}
@@ -13,11 +13,13 @@ use Rattle.model_report.specs.declared.entry.Marks.{Marks}
 use Rattle.model_report.specs.declared.entry.State.{State}
 use Rattle.model_report.specs.declared.entry.State.TheVariants.{Lost, Flushed, Written, Copied}
 
--- the lines of a user, in order
+-- the state of an answered commit whose group ends there, by the marks at the end of the run
+abbrev pub state_by : Marks → ℕ → State
+state_by marks end = if nat_le end marks.flushed then Flushed else (if nat_le end marks.write then Written else Copied)
+
 abbrev pub lines_of_user : ℕ → List ScriptLine → List ScriptLine
 lines_of_user user script = filter (λ line. line.user == user) script
 
--- the entries of a user, in order
 abbrev pub entries_of_user : ℕ → List Entry → List Entry
 entries_of_user user entries = filter (λ entry. entry.user == user) entries
 
@@ -43,10 +45,9 @@ FitsMarks marks end Copied = (marks.flushed < end) × (marks.write < end)
 -- Which states a commit of the mode may end in: one that waits for the flush (1) is flushed or lost, one that waits
 -- for the write (2) isn't only copied.
 abbrev pub FitsMode : ℕ → State → Type 0
-FitsMode mode Lost = Unit {0}
-FitsMode mode Flushed = Unit {0}
 FitsMode mode Written = mode ≢ 1
 FitsMode mode Copied = (mode ≢ 1) × (mode ≢ 2)
+FitsMode mode state = Unit {0}
 
 -- an entry of a legal history, for the line that it stands for
 pub record IsLegalEntry (script : List ScriptLine) (space : ℕ) (marks : Marks) (entry : Entry) : Type 0 where

@@ -1,10 +1,13 @@
--- What `dump` prints of a store that was read: its shape, the newest checkpoint, each scanned block, where it is asked why
--- no further one was read, each group with its records, and where the log ends. And the lines of the other commands.
-use Rattle.std.specs.Prelude.{ℕ, ◌≡◌, ◌+◌, List, [], ◌∷◌, ◌++◌, codes, length, Option, None, Some}
-use Rattle.std.specs.Int.{bytes_high_first}
-use Rattle.std.specs.List.{flat_map}
+-- What is printed: the lines of pages; of a store that was read, by `dump` its shape, the newest checkpoint, each scanned block,
+-- where it is asked why no further one was read, each group with its records, and where the log ends; the lines of the other
+-- commands; and the report of a run. One item a line, single spaces between its words, numbers in decimal without leading zeros.
+use Rattle.std.specs.Prelude.{ℕ, List, [], ◌∷◌, ◌++◌, ◌+◌, ◌==◌, nat_lt, if◌then◌else◌, codes, length, Option, None, Some}
+use Rattle.model_script.specs.{spaced, item_text}
 use Rattle.std.specs.Fmt.{decimal}
 use Rattle.hex.specs.Hex.{encode_lower}
+use Rattle.model_page.specs.declared.content.Content.{Content}
+use Rattle.std.specs.Int.{bytes_high_first}
+use Rattle.std.specs.List.{flat_map}
 use Rattle.model_base.specs.declared.shape.Shape.{Shape}
 use Rattle.model_base.specs.declared.limits.TheConstants.{BLOCK_SIZE, START_LSN}
 use Rattle.model_base.specs.{crc_of}
@@ -17,13 +20,46 @@ use Rattle.model_log.specs.declared.cause.Cause.{Cause}
 use Rattle.model_log.specs.declared.cause.Cause.TheVariants.{Partial, Round, End, Misfit}
 use Rattle.model_log.specs.declared.fit.Fit.{Fit}
 use Rattle.model_log.specs.declared.fit.Fit.TheVariants as fit
-use Rattle.model_page.specs.declared.content.Content.{Content}
-use Rattle.model_store.specs.Reading.{Reading}
-use Rattle.model_script.specs.{item_of, item_text, words_of}
+use Rattle.model_store.specs.{Reading}
 use Rattle.model_script.specs.declared.item.Item.{Item}
 use Rattle.model_script.specs.declared.item.Item.TheVariants.{Num, Text, Init}
-use Rattle.model_report.specs.Line.{line_text}
-use Rattle.model_report.specs.Pages.{page_lines}
+use Rattle.model_report.specs.Legal.{count_up_to}
+use Rattle.model_report.specs.declared.entry.Entry.{Entry}
+use Rattle.model_report.specs.declared.entry.Followed.{Followed}
+use Rattle.model_report.specs.declared.entry.Marks.{Marks}
+use Rattle.model_report.specs.declared.entry.State.{State}
+use Rattle.model_report.specs.declared.entry.State.TheVariants.{Lost, Flushed, Written, Copied}
+
+-- words with single spaces between them, and a line feed
+abbrev pub line_text : List (List ℕ) → List ℕ
+line_text words = spaced words ++ 10 ∷ []
+
+-- the bytes without the zeros at their end
+abbrev pub onto_trimmed : ℕ → List ℕ → List ℕ
+onto_trimmed byte [] = if byte == 0 then [] else byte ∷ []
+onto_trimmed byte (second ∷ bytes) = byte ∷ second ∷ bytes
+
+abbrev pub trimmed : List ℕ → List ℕ
+trimmed [] = []
+trimmed (byte ∷ bytes) = onto_trimmed byte (trimmed bytes)
+
+-- bytes as lower-case hex digits, or a dash if there are none
+abbrev pub hex_word : List ℕ → List ℕ
+hex_word [] = codes "-"
+hex_word (byte ∷ bytes) = encode_lower (byte ∷ bytes)
+
+-- a page that a group has changed: its number, its lsn and its user bytes without the zeros at their end
+unfoldable pub page_line : ℕ → Content → List ℕ
+page_line p page = line_text (codes "p" ∷ decimal p ∷ decimal page.lsn ∷ hex_word (trimmed page.user) ∷ [])
+
+-- the lines of pages, of which the first has the number p; a page of lsn 0 has none
+abbrev pub page_lines_from : ℕ → List Content → List ℕ
+page_lines_from p [] = []
+page_lines_from p (page ∷ pages) =
+    (if nat_lt 0 page.lsn then page_line p page else []) ++ page_lines_from (p + 1) pages
+
+unfoldable pub page_lines : List Content → List ℕ
+page_lines pages = page_lines_from 0 pages
 
 abbrev pub store_line : Shape → List ℕ
 store_line shape =
@@ -76,12 +112,6 @@ item_of_record (rec.Init space page) = Init page
 abbrev pub record_line : Rec → List ℕ
 record_line logged = line_text (codes "rec" ∷ item_text (item_of_record logged) ∷ [])
 
--- the line names the operation: after the word `rec` stands a text that a script reads as it
-pub record NamesOperation (line : List ℕ) (item : Item) : Type 0 where
-  pub text : List ℕ
-  pub line_is : line ≡ line_text (codes "rec" ∷ text ∷ [])
-  pub is_read : item_of (words_of text) ≡ Some item
-
 -- a group, and under it its records
 abbrev pub whole_lines : Whole → List ℕ
 whole_lines whole =
@@ -124,3 +154,52 @@ unfoldable pub summary_text : (groups flushed ckpt : ℕ) → List Content → L
 summary_text groups flushed ckpt pages =
     line_text (codes "summary" ∷ decimal groups ∷ decimal flushed ∷ decimal ckpt
     ∷ encode_lower (bytes_high_first 4 (crc_of (page_lines pages))) ∷ [])
+
+-- where the run starts, or that opening was stopped
+abbrev pub open_line : Option ℕ → List ℕ
+open_line None = line_text (codes "open" ∷ codes "none" ∷ [])
+open_line (Some start) = line_text (codes "open" ∷ decimal start ∷ [])
+
+abbrev pub state_word : State → List ℕ
+state_word Lost = codes "lost"
+state_word Flushed = codes "flushed"
+state_word Written = codes "written"
+state_word Copied = codes "copied"
+
+-- a reserved group
+abbrev pub group_line : Entry → List ℕ
+group_line entry =
+    line_text (codes "g" ∷ decimal entry.start ∷ decimal entry.end ∷ decimal entry.user ∷ decimal entry.k ∷ state_word entry.state ∷ [])
+
+-- how many of a user's lines have no group
+abbrev pub left_line : ℕ × ℕ → List ℕ
+left_line left = line_text (codes "left" ∷ decimal left.0 ∷ decimal left.1 ∷ [])
+
+-- the marks at the end of the run; there are none where opening was stopped
+abbrev pub marks_line : Option Marks → List ℕ
+marks_line None = []
+marks_line (Some marks) =
+    line_text (codes "marks" ∷ decimal marks.wtail ∷ decimal marks.write ∷ decimal marks.flushed ∷ decimal marks.ckpt ∷ [])
+
+-- what a follower came to, its checksum in hex digits
+abbrev pub follow_line : Followed → List ℕ
+follow_line followed =
+    line_text (codes "follow" ∷ decimal followed.number ∷ decimal followed.count ∷ decimal followed.lsn
+    ∷ encode_lower (bytes_high_first 4 followed.crc) ∷ [])
+
+-- where the recovered log ends, and how many of the groups end at or below that
+abbrev pub recovered_line : List Entry → ℕ → List ℕ
+recovered_line entries end = line_text (codes "recovered" ∷ decimal (count_up_to end entries) ∷ decimal end ∷ [])
+
+-- what was read after a crash: the log's end and the pages; a run that isn't crashed reads nothing
+abbrev pub read_lines : List Entry → Option (ℕ × List Content) → List ℕ
+read_lines entries None = []
+read_lines entries (Some read) = recovered_line entries read.0 ++ page_lines read.1
+
+-- The report: where the run starts, each group in lsn order, what is left of each user in ascending order, the marks,
+-- what each follower came to, and what was read after the crash.
+unfoldable pub report_text : Option ℕ → List Entry → List (ℕ × ℕ) → Option Marks → List Followed
+    → Option (ℕ × List Content) → List ℕ
+report_text start entries left marks follows read =
+    open_line start ++ flat_map group_line entries ++ flat_map left_line left ++ marks_line marks
+    ++ flat_map follow_line follows ++ read_lines entries read

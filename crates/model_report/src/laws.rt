@@ -4,8 +4,8 @@ ghost use Rattle.std.specs.List.{AllByRecursion};
 ghost use Rattle.model_log.specs.declared.group.Whole.{Whole};
 ghost use Rattle.model_log.specs.{IsBoundary, IsRunOf, last_span_end, spans_of};
 ghost use Rattle.model_script.specs.declared.script.ScriptLine.{ScriptLine};
-ghost use Rattle.model_report.specs.Answered.{HasNoLost, IsAnswered, state_by};
-ghost use Rattle.model_report.specs.Legal.{FitsMarks, FitsMode, IsLegal, IsLegalEntry, count_up_to, entries_of_user, entry_spans, wholes_of};
+ghost use Rattle.model_report.specs.Answered.{HasNoLost, IsAnswered};
+ghost use Rattle.model_report.specs.Legal.{state_by, FitsMarks, FitsMode, IsLegal, IsLegalEntry, count_up_to, entries_of_user, entry_spans, wholes_of};
 ghost use Rattle.model_report.specs.declared.entry.Entry.{Entry};
 ghost use Rattle.model_report.specs.declared.entry.Marks.{Marks};
 

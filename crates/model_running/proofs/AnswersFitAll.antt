@@ -7,12 +7,7 @@ use native.Mathlib.Decide.{dec_le}
 use Rattle.model_base.specs.declared.limits.TheConstants.{LSN_LIMIT}
 use Rattle.model_core.proofs.Groups.{tiles_at}
 use Rattle.model_core.proofs.Lsns.{lsn_le}
-use Rattle.model_core.specs.{Actor, checkpointer_op, cleaner_fits, cleaner_op, CleanerState, closer_fits, closer_op, CloserState, end_of, flusher_op, is_checking, Listed, lsn, next, old_of, own_op, PageFitting, shared_answer, SharedWords, user_op, writer_op, Advance, advance_op, user_page_fits, UserState}
-use Rattle.model_core.specs.{reader_op}
-use Rattle.model_core.specs.AnswerFits.{AnswerFits}
-use Rattle.model_core.specs.DataSide.{DataSide}
-use Rattle.model_core.specs.LogSide.{LogSide}
-use Rattle.model_core.specs.Setup.{Setup}
+use Rattle.model_core.specs.{Actor, checkpointer_op, cleaner_fits, cleaner_op, CleanerState, closer_fits, closer_op, CloserState, end_of, flusher_op, is_checking, Listed, lsn, next, old_of, own_op, PageFitting, shared_answer, SharedWords, user_op, writer_op, Advance, advance_op, user_page_fits, UserState, reader_op, AnswerFits, advance_fits, DataSide, LogSide, Setup}
 use Rattle.model_core.specs.declared.ops.Op.{Op}
 use Rattle.model_core.specs.declared.steps.CleanerStep.{CleanerStep}
 use Rattle.model_core.specs.declared.steps.CloserStep.{CloserStep}
@@ -21,20 +16,19 @@ use Rattle.model_logcore.specs.{LogGhost}
 use Rattle.model_pagecore.specs.{CleanerAt, CleanerFits, CloserFits, PageGhost, CloserAt, ClosingAt, UserClosingAt, UserPageFits}
 use Rattle.model_running.proofs.Archiving.{lost_small}
 use Rattle.model_running.specs.Bounds.{HasBytes, HaveSmallCodes}
-use Rattle.model_running.specs.RunningStore.{BothHalves}
+use Rattle.model_running.specs.Watermarks.{BothHalves}
 use Rattle.model_core.specs.declared.words.Word.TheVariants as word
 use Rattle.model_core.specs.declared.ops.Op.TheVariants as op
 use Rattle.model_core.specs.declared.steps.CloserStep.TheVariants as closer_step
 use Rattle.model_core.specs.declared.steps.CleanerStep.TheVariants as cleaner_step
 use Rattle.model_core.specs.declared.steps.AdvanceStep.TheVariants as advance_step
 use Rattle.model_core.specs.declared.words.LinkBuffer.TheVariants as link_buffer
-use Rattle.model_core.specs.Fitting.{advance_fits}
 use Rattle.model_core.proofs.Tails.{tail_in}
 use Rattle.model_core.specs.declared.steps.UserStep.TheVariants as user_step
 use Rattle.model_core.specs.declared.steps.UserStep.{UserStep}
 use Rattle.model_core.specs.declared.steps.AdvanceStep.{AdvanceStep}
 use Rattle.model_core.specs.declared.limits.TheConstants.{CLOSED_LINKS}
-use Rattle.model_core.specs.Actors as actor
+use Rattle.model_core.specs.States as actor
 
 module _ (D : LogSide) (E : DataSide) (c : Setup) (m : SharedWords) (g : LogGhost) (h : PageGhost) (ls : ℕ → List Listed) (p : D.Part) (d : E.Part) (actors : List Actor) (seat : ℕ) (both : BothHalves D E c m g h ls p d actors) (bytes : HasBytes c) (codes : HaveSmallCodes D E) (broken : Bool) (code mark : ℕ) where
   small_top : lsn m.sn < LSN_LIMIT

@@ -1,7 +1,6 @@
 -- The archiver's place, whatever the log device tells: it stays below FLUSHED's block, and up to its append below that
 -- of the mark that it has loaded.
-use Rattle.std.proofs.Common.{Bool, List, None, ap, arith, cond, eqb, false, refl, set, subst, sym, true, ℕ, ⊎_elim}
-use Rattle.std.proofs.Common.{◌%◌, ◌+◌, ◌<◌, ◌==◌, ◌∙◌, ◌≡◌, ◌≤◌}
+use Rattle.std.proofs.Common.{Bool, List, None, ap, arith, cond, eqb, false, refl, set, subst, sym, true, ℕ, ⊎_elim, ◌%◌, ◌+◌, ◌<◌, ◌==◌, ◌∙◌, ◌≡◌, ◌≤◌}
 use Rattle.std.proofs.lemmas.Bool.Decides.{nat_tests}
 use Rattle.std.specs.Prelude.{nat_le}
 use lib.ListN.{get_elem?}
@@ -9,12 +8,7 @@ use mathlib.Core.Option.{some}
 use Rattle.model_base.specs.declared.limits.TheConstants.{BLOCK_SIZE}
 use Rattle.model_core.proofs.Lists.{at_set}
 use Rattle.model_core.proofs.Lsns.{floor_grows}
-use Rattle.model_core.specs.{Actor, after_of, archives, Entry, floor, flusher_op, followed, has_all}
-use Rattle.model_core.specs.{Listed, log_left, next, old_of, own_op, reader_op, reader_program}
-use Rattle.model_core.specs.{reader_took, ReaderState, shared_answer, shared_left, SharedWords, to_append, took}
-use Rattle.model_core.specs.DataSide.{DataSide}
-use Rattle.model_core.specs.LogSide.{LogSide}
-use Rattle.model_core.specs.Setup.{Setup}
+use Rattle.model_core.specs.{Actor, after_of, archives, Entry, floor, flusher_op, followed, has_all, Listed, log_left, next, old_of, own_op, reader_op, reader_program, reader_took, ReaderState, shared_answer, shared_left, SharedWords, to_append, took, DataSide, LogSide, Setup}
 use Rattle.model_core.specs.declared.ops.Answer.{Answer}
 use Rattle.model_core.specs.declared.ops.Answer.TheVariants as answer
 use Rattle.model_core.specs.declared.ops.Op.{Op}
@@ -24,15 +18,14 @@ use Rattle.model_core.specs.declared.steps.FlusherStep.TheVariants as flusher_st
 use Rattle.model_core.specs.declared.steps.ReaderStep.{ReaderStep}
 use Rattle.model_core.specs.declared.steps.ReaderStep.TheVariants as reader_step
 use Rattle.model_core.specs.declared.words.Word.TheVariants as word
-use Rattle.model_core.specs.Actors as actor
+use Rattle.model_core.specs.States as actor
 use Rattle.model_logcore.specs.{LogGhost}
 use Rattle.model_logcore.specs.LogFits as marks
 use Rattle.model_pagecore.specs.{PageGhost}
 use Rattle.model_running.proofs.Archiving.{reader_is, number_stays, stays_other, took_reader}
-use Rattle.model_running.proofs.ReadStays.{asks, checkpointer_leaves, cleaner_leaves, closer_leaves, left_reads}
-use Rattle.model_running.proofs.ReadStays.{user_leaves, writer_leaves}
+use Rattle.model_running.proofs.ReadStays.{asks, checkpointer_leaves, cleaner_leaves, closer_leaves, left_reads, user_leaves, writer_leaves}
 use Rattle.model_running.specs.ReadHalf.{ArchiverAt, ArchiverHas}
-use Rattle.model_running.specs.RunningStore.{BothHalves}
+use Rattle.model_running.specs.Watermarks.{BothHalves}
 
 -- FLUSHED doesn't go back
 module _ (c : Setup) (m m' : SharedWords) (log log' : List Entry) (flushed : m.flushed ≤ m'.flushed) where

@@ -1,16 +1,11 @@
 -- A failed append of the archiver stays the cause that it is.
-use Rattle.std.proofs.Common.{Bool, List, ap, arith, cond, eqb-true, false, refl, set, subst, sym, true, ℕ, ⊎_elim}
-use Rattle.std.proofs.Common.{◌<◌, ◌==◌, ◌^◌, ◌∙◌, ◌≡◌}
+use Rattle.std.proofs.Common.{Bool, List, ap, arith, cond, eqb-true, false, refl, set, subst, sym, true, ℕ, ⊎_elim, ◌<◌, ◌==◌, ◌^◌, ◌∙◌, ◌≡◌}
 use lib.ListN.{get_elem?}
 use mathlib.Core.Option.{some, some-injective}
 use native.Mathlib.Decide.{ℕ_discrete}
 use Rattle.model_core.proofs.Later.{took_later}
 use Rattle.model_core.proofs.Lists.{set_at, set_else}
-use Rattle.model_core.specs.{Actor, after_of, archives, checkpointer_op, CheckpointerState, cleaner_op, CleanerState}
-use Rattle.model_core.specs.{closer_op, CloserState, flusher_op, FlusherState, followed, has_all, HasLost}
-use Rattle.model_core.specs.{IsArchiveCode, IsLosing, LostAt, next, old_of, OwnServed, reader_program}
-use Rattle.model_core.specs.{reader_took, ReaderState, to_append, took, user_op, UserState, writer_op, WriterState}
-use Rattle.model_core.specs.Setup.{Setup}
+use Rattle.model_core.specs.{Actor, after_of, archives, checkpointer_op, CheckpointerState, cleaner_op, CleanerState, closer_op, CloserState, flusher_op, FlusherState, followed, has_all, HasLost, IsArchiveCode, IsLosing, LostAt, next, old_of, OwnServed, reader_program, reader_took, ReaderState, to_append, took, user_op, UserState, writer_op, WriterState, Setup}
 use Rattle.model_core.specs.declared.ops.Answer.{Answer}
 use Rattle.model_core.specs.declared.ops.Op.{Op}
 use Rattle.model_core.specs.declared.ops.Op.TheVariants as op
@@ -30,7 +25,7 @@ use Rattle.model_core.specs.declared.steps.WriterStep.TheVariants as writer_step
 use Rattle.model_core.specs.declared.words.Word.TheVariants as word
 use Rattle.model_core.specs.declared.steps.ReaderStep.{ReaderStep}
 use Rattle.model_core.specs.declared.steps.ReaderStep.TheVariants as reader_step
-use Rattle.model_core.specs.Actors as actor
+use Rattle.model_core.specs.States as actor
 use Rattle.model_running.specs.Appending.{IsNoAppend}
 use Rattle.model_running.specs.ReadHalf.{ReadsInRun, StaysInRun}
 

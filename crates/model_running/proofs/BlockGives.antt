@@ -1,17 +1,14 @@
 -- A block of a run has the stream's bytes.
-use Rattle.std.proofs.Common.{Bool, List, None, Some, [], ap, arith, cond, drop, length, min, refl, subst, sym, take}
-use Rattle.std.proofs.Common.{false, true, ℕ, ⊎_elim, ◌%◌, ◌*◌, ◌+◌, ◌-◌, ◌/◌, ◌∙◌, ◌∷◌, ◌≡◌, ◌≤◌}
+use Rattle.std.proofs.Common.{Bool, List, None, Some, [], ap, arith, cond, drop, length, min, refl, subst, sym, take, false, true, ℕ, ⊎_elim, ◌%◌, ◌*◌, ◌+◌, ◌-◌, ◌/◌, ◌∙◌, ◌∷◌, ◌≡◌, ◌≤◌}
 use Rattle.std.specs.List.{All}
 use Rattle.std.proofs.lemmas.Bool.{cases_lt}
 use Rattle.std.proofs.lemmas.Bool.Decides.{nat_tests}
 use Rattle.std.proofs.lemmas.List.{drop-drop, drop-take, take-take}
 use Rattle.std.proofs.lemmas.List.Elements.{All-append, All-nil}
 use Rattle.model_core.proofs.Lsns.{lsn_block, lsn_offset}
-use Rattle.model_core.specs.{end_of, Entry, floor, lsn, stream}
-use Rattle.model_core.specs.LogSide.{LogSide}
+use Rattle.model_core.specs.{end_of, Entry, floor, lsn, stream, LogSide}
 use Rattle.model_logcore.specs.LogLaws.{CanRead, HasBlock}
-use Rattle.model_log.specs.{groups_of, IsAtDataStart, IsBoundary, IsBoundaryBlock, IsByte, IsRunOf, sn_of, spans_of, stream_of}
-use Rattle.model_log.specs.Block.{block_view, data_of, is_block_at, read_block}
+use Rattle.model_log.specs.{groups_of, IsAtDataStart, IsBoundary, IsBoundaryBlock, IsByte, IsRunOf, sn_of, spans_of, stream_of, block_view, data_of, is_block_at, read_block}
 use Rattle.model_log.specs.Boundary.{content_at, first_at}
 use Rattle.model_log.specs.declared.block.BlockView.{BlockView}
 use Rattle.model_log.specs.declared.group.Whole.{Whole}

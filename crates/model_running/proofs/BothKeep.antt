@@ -1,29 +1,22 @@
 -- Whatever an actor's next Op is, its turn keeps the page half.
 use Rattle.model_running.proofs.ReadStays.{given_to, IsFilled, read_kept}
 use Rattle.model_running.specs.ReadHalf.{ArchiverHas, HaveRunBlocks, ReadHalf, StaysInRun}
-use Rattle.model_core.specs.Actors.{Room}
+use Rattle.model_core.specs.{Room, Actor, archives, Blocks, checked, DataServed, Entry, flusher_op, lent, Listed, lists_left, log_left, LogServed, next, Nothing, old_of, OwnServed, own_took, ReaderState, shared_answer, shared_left, SharedWords, took, writer_op, reader_op, DataSide, LogSide, Setup}
 use Rattle.std.proofs.Common.{Bool, List, arith, cond, false, refl, set, subst, sym, true, ℕ, ◌≡◌, ⊎_elim}
 use Rattle.std.specs.Prelude.{slice_index}
 use lib.ListN.{get_elem?}
 use mathlib.Core.Option.{some}
-use Rattle.model_core.specs.{Actor, archives, Blocks, checked, DataServed, Entry, flusher_op, lent, Listed, lists_left, log_left, LogServed, next, Nothing, old_of, OwnServed, own_took, ReaderState, shared_answer, shared_left, SharedWords, took, writer_op}
-use Rattle.model_core.specs.{reader_op}
-use Rattle.model_core.specs.DataSide.{DataSide}
 use Rattle.model_core.specs.declared.ops.Answer.{Answer}
-use Rattle.model_core.specs.LogSide.{LogSide}
-use Rattle.model_core.specs.Setup.{Setup}
 use Rattle.model_core.proofs.TailHolders.{holder_stays}
 use Rattle.model_logcore.proofs.LogKeeps.{keeps}
-use Rattle.model_logcore.specs.{LogGhost}
-use Rattle.model_logcore.specs.LogHalf.{LogHalf}
+use Rattle.model_logcore.specs.{LogGhost, LogHalf}
 use Rattle.model_logcore.specs.LogLaws.{LogLaws}
 use Rattle.model_pagecore.specs.{PageGhost}
 use Rattle.model_pagecore.specs.DataLaws.{DataLaws}
 use Rattle.model_pagecore.specs.PageHalf.{PageHalf}
-use Rattle.model_running.specs.RunningStore.{BothHalves}
-use Rattle.model_running.specs.UsersClosed.{UsersClosed}
+use Rattle.model_running.specs.Watermarks.{BothHalves, UsersClosed}
 use Rattle.model_core.specs.declared.words.LinkBuffer.TheVariants as link_buffer
-use Rattle.model_core.specs.Actors as actor
+use Rattle.model_core.specs.States as actor
 use Rattle.model_core.specs.declared.words.Word.TheVariants as word
 use Rattle.model_core.specs.declared.ops.Op.TheVariants as op
 use Rattle.model_running.proofs.ArchiverStays.{archiver_kept}
@@ -37,8 +30,7 @@ use Rattle.model_running.proofs.CheckpointerTurns.{checkpointer_turn}
 use Rattle.model_running.proofs.CleanerTurns.{cleaner_turn}
 use Rattle.model_running.proofs.ClosedKeep.{users_closed}
 use Rattle.model_running.proofs.LatchesKeep.{latches_kept}
-use Rattle.model_running.proofs.LogTurns.{closer_turn, flusher_turn, writer_turn}
-use Rattle.model_running.proofs.LogTurns.{reader_turn}
+use Rattle.model_running.proofs.LogTurns.{closer_turn, flusher_turn, writer_turn, reader_turn}
 use Rattle.model_running.proofs.PageTurn.{PageDone}
 use Rattle.model_core.proofs.Lists.{at_set}
 use Rattle.model_running.proofs.InRun.{append_fits, stays_in_run}

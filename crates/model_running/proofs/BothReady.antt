@@ -1,13 +1,8 @@
 -- The conditions of each call of both parts, where an actor asks for it.
-use Rattle.model_core.specs.Actors.{Room}
+use Rattle.model_core.specs.{Room, Actor, Batch, Blocks, checkpointer_op, CheckpointerState, cleaner_op, CleanerState, closer_op, CloserState, flusher_op, FlusherState, Lent, lent, Listed, next, Nothing, SharedWords, user_op, UserState, writer_op, WriterState, reader_op, ReaderState, DataSide, LogSide, Setup}
 use Rattle.std.proofs.Common.{Bool, List, ap, cond, false, refl, true, ℕ, ◌∙◌, ◌≡◌}
 use lib.ListN.{get_elem?}
 use mathlib.Core.Option.{some}
-use Rattle.model_core.specs.{Actor, Batch, Blocks, checkpointer_op, CheckpointerState, cleaner_op, CleanerState, closer_op, CloserState, flusher_op, FlusherState, Lent, lent, Listed, next, Nothing, SharedWords, user_op, UserState, writer_op, WriterState}
-use Rattle.model_core.specs.{reader_op, ReaderState}
-use Rattle.model_core.specs.DataSide.{DataSide}
-use Rattle.model_core.specs.LogSide.{LogSide}
-use Rattle.model_core.specs.Setup.{Setup}
 use Rattle.model_core.specs.declared.ops.Op.{Op}
 use Rattle.model_core.specs.declared.steps.CheckpointerStep.{CheckpointerStep}
 use Rattle.model_core.specs.declared.steps.CleanerStep.{CleanerStep}
@@ -23,8 +18,8 @@ use Rattle.model_logcore.specs.Ready.{Ready}
 use Rattle.model_pagecore.specs.DataLaws.{DataLaws}
 use Rattle.model_pagecore.specs.{PageGhost}
 use Rattle.model_running.proofs.CallConditions.{all_written, can_checkpoint, can_write_batch}
-use Rattle.model_running.specs.DataReady.{BatchReady}
-use Rattle.model_running.specs.RunningStore.{BothHalves}
+use Rattle.model_running.specs.Ready.{BatchReady}
+use Rattle.model_running.specs.Watermarks.{BothHalves}
 use Rattle.model_core.specs.declared.words.Word.TheVariants as word
 use Rattle.model_core.specs.declared.ops.Op.TheVariants as op
 use Rattle.model_core.specs.declared.steps.UserStep.TheVariants as user_step
@@ -35,7 +30,7 @@ use Rattle.model_core.specs.declared.steps.CloserStep.TheVariants as closer_step
 use Rattle.model_core.specs.declared.steps.CleanerStep.TheVariants as cleaner_step
 use Rattle.model_core.specs.declared.steps.CheckpointerStep.TheVariants as checkpointer_step
 use Rattle.model_core.specs.declared.steps.AdvanceStep.TheVariants as advance_step
-use Rattle.model_core.specs.Actors as actor
+use Rattle.model_core.specs.States as actor
 
 module _ (D : LogSide) (L : LogLaws D) (E : DataSide) (EL : DataLaws E) (c : Setup) (m : SharedWords) (g : LogGhost) (h : PageGhost) (ls : ℕ → List Listed) (p : D.Part) (d : E.Part) (actors : List Actor) (seat : ℕ) (both : BothHalves D E c m g h ls p d actors) where
   pub log_ready : (a : Actor) → get_elem? actors seat ≡ some a → Ready D c g p a (next a)

@@ -3,13 +3,9 @@ use Rattle.std.proofs.Common.{List, [], arith, false, length, subst, sym, â„•, â
 use lib.ListN.{get_elem?}
 use mathlib.Core.Option.{some}
 use Rattle.model_base.specs.declared.limits.TheConstants.{LSN_LIMIT}
-use Rattle.model_core.specs.{Actor, BatchPage, change_at, CheckpointerState, CleanerState, Entry, IsSized, layout_of, Listed, lsn, PageChange, SharedWords, UserState}
-use Rattle.model_core.specs.DataSide.{DataSide}
-use Rattle.model_core.specs.LogSide.{LogSide}
-use Rattle.model_core.specs.Setup.{Setup}
+use Rattle.model_core.specs.{Actor, BatchPage, change_at, CheckpointerState, CleanerState, Entry, IsSized, layout_of, Listed, lsn, PageChange, SharedWords, UserState, DataSide, LogSide, Setup}
 use Rattle.model_logcore.proofs.AnswersFit.{small_sn}
-use Rattle.model_logcore.specs.{LogGhost, UserFits}
-use Rattle.model_logcore.specs.LogHalf.{LogHalf}
+use Rattle.model_logcore.specs.{LogGhost, UserFits, LogHalf}
 use Rattle.model_logcore.specs.LogLaws.{LogLaws}
 use Rattle.model_pagecore.proofs.BatchSteps.{can_batch}
 use Rattle.model_pagecore.proofs.PageHistory.{laid}
@@ -18,10 +14,10 @@ use Rattle.model_pagecore.proofs.PageStep.{cells_mine}
 use Rattle.model_pagecore.specs.{AfterBatch, CanBatch, CheckpointerPageFits, CheckpointerPagesAt, CleanerFits, Laid, PageGhost, is_changed_page, runs}
 use Rattle.model_pagecore.specs.DataLaws.{DataLaws}
 use Rattle.model_pagecore.specs.PageHalf.{PageHalf}
-use Rattle.model_running.specs.RunningStore.{BothHalves}
+use Rattle.model_running.specs.Watermarks.{BothHalves}
 use Rattle.model_core.specs.declared.steps.CleanerStep.TheVariants as cleaner_step
 use Rattle.model_core.specs.declared.steps.CheckpointerStep.TheVariants as checkpointer_step
-use Rattle.model_core.specs.Actors as actor
+use Rattle.model_core.specs.States as actor
 use Rattle.model_logcore.specs.LogFits as marks
 use Rattle.model_logcore.specs.LogLaws as sights
 

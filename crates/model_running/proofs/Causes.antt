@@ -1,16 +1,11 @@
 -- FAILED has a cause: it is stored only by an actor whose device call or append failed, and no later step takes a cause
 -- back.
 use Rattle.model_core.specs.ReaderProgram.{next_block}
-use Rattle.model_core.specs.Actors.{Room}
+use Rattle.model_core.specs.{Room, Actor, Batch, Blocks, checkpointer_op, CheckpointerState, cleaner_op, CleanerState, closer_op, CloserState, DataServed, flusher_op, FlusherState, lent, Listed, LogServed, next, Nothing, read, shared_left, SharedWords, user_op, UserState, writer_op, WriterState, wrote, HasLost, reader_op, ReaderState, DataSide, LogSide, Setup}
 use Rattle.std.proofs.Common.{Bool, List, cond, eqb, false, inl, inr, refl, subst, sym, true, ℕ, ◌+◌, ◌%◌, ◌<◌, ◌≡◌, ◌⊎◌, ⊎_elim}
 use Rattle.std.specs.Prelude.{slice_index, slice_set}
 use lib.ListN.{get_elem?}
 use mathlib.Core.Option.{some}
-use Rattle.model_core.specs.{Actor, Batch, Blocks, checkpointer_op, CheckpointerState, cleaner_op, CleanerState, closer_op, CloserState, DataServed, flusher_op, FlusherState, lent, Listed, LogServed, next, Nothing, read, shared_left, SharedWords, user_op, UserState, writer_op, WriterState, wrote}
-use Rattle.model_core.specs.{HasLost, reader_op, ReaderState}
-use Rattle.model_core.specs.DataSide.{DataSide}
-use Rattle.model_core.specs.LogSide.{LogSide}
-use Rattle.model_core.specs.Setup.{Setup}
 use Rattle.model_core.specs.declared.steps.CleanerStep.{CleanerStep}
 use Rattle.model_core.specs.declared.steps.CloserStep.{CloserStep}
 use Rattle.model_core.specs.declared.steps.UserStep.{UserStep}
@@ -23,13 +18,13 @@ use Rattle.model_logcore.specs.{LogGhost}
 use Rattle.model_logcore.specs.LogLaws.{LogLaws}
 use Rattle.model_pagecore.specs.DataLaws.{DataLaws}
 use Rattle.model_pagecore.specs.{CleanerFits, PageGhost}
-use Rattle.model_running.specs.RunningStore.{BothHalves}
+use Rattle.model_running.specs.Watermarks.{BothHalves}
 use Rattle.model_core.specs.declared.steps.UserStep.TheVariants as user_step
 use Rattle.model_core.specs.declared.steps.CloserStep.TheVariants as closer_step
 use Rattle.model_core.specs.declared.steps.CleanerStep.TheVariants as cleaner_step
 use Rattle.model_core.specs.declared.steps.CheckpointerStep.TheVariants as checkpointer_step
 use Rattle.model_core.specs.declared.steps.AdvanceStep.TheVariants as advance_step
-use Rattle.model_core.specs.Actors as actor
+use Rattle.model_core.specs.States as actor
 use Rattle.model_core.specs.declared.words.Word.TheVariants as word
 use Rattle.model_core.specs.declared.ops.Op.TheVariants as op
 use Rattle.model_core.specs.declared.steps.WriterStep.TheVariants as writer_step

@@ -3,22 +3,18 @@ use Rattle.std.proofs.Common.{Bool, List, ap, arith, cond, eqb, eqb-true, false,
 use Rattle.std.specs.Prelude.{None, slice_index, slice_set}
 use lib.ListN.{get_elem?}
 use mathlib.Core.Option.{some}
-use Rattle.model_core.specs.{Actor, checked, checkpointer_op, checkpointer_took, CheckpointerState, DataServed, Entry, Listed, lists_left, LogServed, Nothing, old_of, oldest_end, own_took, shared_answer, shared_left, SharedWords}
-use Rattle.model_core.specs.DataSide.{DataSide}
-use Rattle.model_core.specs.LogSide.{LogSide}
-use Rattle.model_core.specs.Setup.{Setup}
+use Rattle.model_core.specs.{Actor, checked, checkpointer_op, checkpointer_took, CheckpointerState, DataServed, Entry, Listed, lists_left, LogServed, Nothing, old_of, oldest_end, own_took, shared_answer, shared_left, SharedWords, DataSide, LogSide, Setup}
 use Rattle.model_core.specs.declared.steps.CheckpointerStep.{CheckpointerStep}
-use Rattle.model_logcore.specs.{LogGhost}
-use Rattle.model_logcore.specs.LogHalf.{LogHalf}
+use Rattle.model_logcore.specs.{LogGhost, LogHalf}
 use Rattle.model_logcore.specs.LogLaws.{LogLaws}
 use Rattle.model_pagecore.proofs.ListSteps.{keeps_oldest_end}
 use Rattle.model_pagecore.proofs.CheckpointSteps.{keeps_begin, keeps_candidate, keeps_next_list, keeps_place_bound, keeps_promise}
 use Rattle.model_pagecore.specs.{CheckpointerPageFits, CheckpointerPagesAt, PageGhost, rests}
 use Rattle.model_pagecore.specs.DataLaws.{DataLaws}
-use Rattle.model_running.specs.RunningStore.{BothHalves}
+use Rattle.model_running.specs.Watermarks.{BothHalves}
 use Rattle.model_core.specs.declared.ops.Answer.TheVariants as answer
 use Rattle.model_core.specs.declared.steps.CheckpointerStep.TheVariants as checkpointer_step
-use Rattle.model_core.specs.Actors as actor
+use Rattle.model_core.specs.States as actor
 use Rattle.model_core.specs.declared.words.Word.TheVariants as word
 use Rattle.model_core.specs.declared.ops.Op.TheVariants as op
 use Rattle.model_running.proofs.CallConditions.{can_checkpoint}

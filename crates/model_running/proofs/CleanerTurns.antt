@@ -4,10 +4,7 @@ use Rattle.std.proofs.lemmas.Bool.{eqb-false}
 use Rattle.std.specs.Prelude.{None, slice_index, slice_set}
 use lib.ListN.{get_elem?}
 use mathlib.Core.Option.{some}
-use Rattle.model_core.specs.{Actor, Batch, BatchPage, checked, cleaner_op, cleaner_took, CleanerState, DataServed, Entry, first_of_batch, Listed, lists_left, LogServed, next_in_round, old_of, own_took, page_words_at, shared_answer, shared_left, SharedWords, with_page_words, without}
-use Rattle.model_core.specs.DataSide.{DataSide}
-use Rattle.model_core.specs.LogSide.{LogSide}
-use Rattle.model_core.specs.Setup.{Setup}
+use Rattle.model_core.specs.{Actor, Batch, BatchPage, checked, cleaner_op, cleaner_took, CleanerState, DataServed, Entry, first_of_batch, Listed, lists_left, LogServed, next_in_round, old_of, own_took, page_words_at, shared_answer, shared_left, SharedWords, with_page_words, without, DataSide, LogSide, Setup}
 use Rattle.model_core.specs.declared.steps.CleanerStep.{CleanerStep}
 use Rattle.model_logcore.specs.{LogGhost}
 use Rattle.model_logcore.specs.LogLaws.{LogLaws}
@@ -21,10 +18,10 @@ use Rattle.model_pagecore.proofs.PageStep.{page_quiet}
 use Rattle.model_pagecore.specs.{AfterBatch, CleanerAt, CleanerFits, Grows, PageGhost, renewed}
 use Rattle.model_pagecore.specs.DataLaws.{DataLaws}
 use Rattle.model_pagecore.specs.PageHalf.{PageHalf}
-use Rattle.model_running.specs.RunningStore.{BothHalves}
+use Rattle.model_running.specs.Watermarks.{BothHalves}
 use Rattle.model_core.specs.declared.ops.Answer.TheVariants as answer
 use Rattle.model_core.specs.declared.steps.CleanerStep.TheVariants as cleaner_step
-use Rattle.model_core.specs.Actors as actor
+use Rattle.model_core.specs.States as actor
 use Rattle.model_core.specs.declared.words.Word.TheVariants as word
 use Rattle.model_core.specs.declared.ops.Op.TheVariants as op
 use Rattle.model_running.proofs.CallConditions.{after_batch}

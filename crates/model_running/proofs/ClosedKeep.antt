@@ -7,21 +7,16 @@ use native.Mathlib.Decide.{dec_le}
 use Rattle.model_core.proofs.Groups.{tiles_at}
 use Rattle.model_core.proofs.Lists.{at_set, at_snoc}
 use Rattle.model_core.proofs.Lsns.{lsn_less, lsn_same, ring_same}
-use Rattle.model_core.specs.{Actor, checked_of, entry, Entry, group_end, heard, line, Listed, log_left, lsn, next, old_of, phase_log, shared_left, SharedWords, took, user_op, user_program, user_took, UserState}
-use Rattle.model_core.specs.DataSide.{DataSide}
-use Rattle.model_core.specs.LogSide.{LogSide}
-use Rattle.model_core.specs.Setup.{Setup}
+use Rattle.model_core.specs.{Actor, checked_of, entry, Entry, group_end, heard, line, Listed, log_left, lsn, next, old_of, phase_log, shared_left, SharedWords, took, user_op, user_program, user_took, UserState, DataSide, LogSide, Setup, IsSameActor}
 use Rattle.model_core.specs.declared.ops.Answer.{Answer}
 use Rattle.model_core.specs.declared.steps.UserStep.{UserStep}
 use Rattle.model_core.specs.declared.limits.TheConstants.{CLOSED_LINKS}
 use Rattle.model_logcore.specs.{LogGhost, UserAt, UserFits}
 use Rattle.model_pagecore.specs.{ClosedLinks, Grows, PageGhost, UserPageFits, UserPagesAt}
 use Rattle.model_core.proofs.Later.{took_later, was_user}
-use Rattle.model_core.specs.Later.{IsSameActor}
 use Rattle.model_running.proofs.UserCloses.{Needs, closes, closes_checked}
-use Rattle.model_running.specs.RunningStore.{BothHalves}
-use Rattle.model_running.specs.UsersClosed.{HandIsClosed, UserClosed, UsersClosed}
-use Rattle.model_core.specs.Actors as actor
+use Rattle.model_running.specs.Watermarks.{BothHalves, HandIsClosed, UserClosed, UsersClosed}
+use Rattle.model_core.specs.States as actor
 use Rattle.model_core.specs.declared.ops.Op.TheVariants as op
 use Rattle.model_core.specs.declared.steps.UserStep.TheVariants as user_step
 use Rattle.model_core.specs.declared.words.Word.TheVariants as word

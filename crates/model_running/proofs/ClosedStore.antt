@@ -1,14 +1,9 @@
 -- At any moment a running store's devices hold the run that it stands for.
 use Rattle.std.proofs.Common.{List, arith, subst, sym, ℕ, ◌∙◌, ◌≡◌}
 use Rattle.model_base.specs.declared.shape.Shape.{Shape}
-use Rattle.model_core.specs.DataSide.{DataSide}
-use Rattle.model_core.specs.LogSide.{LogSide}
-use Rattle.model_core.specs.{Core, lsn}
-use Rattle.model_core.specs.Setup.{Setup}
-use Rattle.model_device.specs.Disk.{Disk}
-use Rattle.model_running.specs.ClosedStore.{DataTells, LogTells}
-use Rattle.model_running.specs.Finished.{StandsForRun}
-use Rattle.model_running.specs.FinishedPages.{FinishedPages}
+use Rattle.model_core.specs.{DataSide, LogSide, Core, lsn, Setup}
+use Rattle.model_device.specs.{Disk}
+use Rattle.model_running.specs.Finished.{DataTells, LogTells, StandsForRun, FinishedPages}
 use Rattle.model_report.specs.{wholes_of}
 use Rattle.model_log.specs.{start_after}
 use Rattle.model_parts.specs.{LogHolds}

@@ -6,11 +6,8 @@ use lib.ListN.{get_elem?}
 use mathlib.Core.Option.{some}
 use Rattle.model_core.proofs.Lists.{set_at}
 use Rattle.model_running.proofs.Filling.{fills_keep, is_filled, next_filled}
-use Rattle.model_core.specs.{Actor, answer_of, appended, Core, DataServed, Entry, filled, layout_of, lent, list_word, log_left, LogServed, Listed, lists_left, next, OwnServed, took, without, words_left}
-use Rattle.model_core.specs.DataSide.{DataSide}
-use Rattle.model_core.specs.LogSide.{LogSide}
-use Rattle.model_core.specs.Setup.{Setup}
-use Rattle.model_core.specs.Turn.{Turn}
+use Rattle.model_core.specs.{Actor, answer_of, appended, Core, DataServed, Entry, filled, layout_of, lent, list_word, log_left, LogServed, Listed, lists_left, next, OwnServed, took, without, words_left, DataSide, LogSide, Setup}
+use Rattle.model_core.specs.Program.{Turn}
 use Rattle.model_core.specs.declared.ops.Answer.{Answer}
 use Rattle.model_core.specs.declared.ops.Op.{Op}
 use Rattle.model_core.specs.declared.ops.Step.{Step}
@@ -18,7 +15,7 @@ use Rattle.model_logcore.specs.LogLaws.{LogLaws}
 use Rattle.model_pagecore.specs.DataLaws.{DataLaws}
 use Rattle.model_running.proofs.FlatWords.{flat_read}
 use Rattle.model_running.proofs.Turns.{keeps_turn, RunsOver}
-use Rattle.model_running.specs.RunningStore.{BothHalves, IsRunning, RunningStore}
+use Rattle.model_running.specs.Watermarks.{BothHalves, IsRunning, RunningStore}
 use Rattle.model_core.specs.declared.ops.Op.TheVariants as op
 use Rattle.model_core.specs.declared.words.Layout.{Layout}
 use Rattle.model_core.specs.declared.words.Word.TheVariants as word

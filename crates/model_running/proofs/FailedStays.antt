@@ -3,12 +3,8 @@ use Rattle.std.proofs.Common.{Bool, List, ap, arith, cond, false, get_or-set_oth
 use Rattle.std.specs.Prelude.{slice_index, slice_set}
 use lib.ListN.{get_elem?}
 use mathlib.Core.Option.{some}
-use Rattle.model_core.specs.{Actor, checkpointer_op, CheckpointerState, cleaner_op, CleanerState, closer_op, CloserState, Core, flat, flusher_op, FlusherState, index, is_checking, next, own_op, SharedWords, user_op, UserState, words_left, writer_op, WriterState}
-use Rattle.model_core.specs.{reader_op, ReaderState}
-use Rattle.model_core.specs.DataSide.{DataSide}
-use Rattle.model_core.specs.LogSide.{LogSide}
-use Rattle.model_core.specs.Setup.{Setup}
-use Rattle.model_core.specs.Turn.{Turn}
+use Rattle.model_core.specs.{Actor, checkpointer_op, CheckpointerState, cleaner_op, CleanerState, closer_op, CloserState, Core, flat, flusher_op, FlusherState, index, is_checking, next, own_op, SharedWords, user_op, UserState, words_left, writer_op, WriterState, reader_op, ReaderState, DataSide, LogSide, Setup}
+use Rattle.model_core.specs.Program.{Turn}
 use Rattle.model_core.specs.declared.ops.Answer.{Answer}
 use Rattle.model_core.specs.declared.ops.Op.{Op}
 use Rattle.model_core.specs.declared.ops.Step.{Step}
@@ -22,10 +18,8 @@ use Rattle.model_core.specs.declared.steps.WriterStep.{WriterStep}
 use Rattle.model_core.specs.declared.words.Layout.{Layout}
 use Rattle.model_core.specs.declared.words.Word.{Word}
 use Rattle.model_logcore.proofs.WriterSteps.{own}
-use Rattle.model_logcore.specs.{CheckpointerAt, CheckpointerFits, CleanerTold, FlusherAt, FlusherFits, LogGhost, WriterAt, WriterFits}
-use Rattle.model_logcore.specs.{ReaderAt, ReaderFits}
-use Rattle.model_logcore.specs.LogHalf.{LogHalf}
-use Rattle.model_running.specs.RunningStore.{IsRunning}
+use Rattle.model_logcore.specs.{CheckpointerAt, CheckpointerFits, CleanerTold, FlusherAt, FlusherFits, LogGhost, WriterAt, WriterFits, ReaderAt, ReaderFits, LogHalf}
+use Rattle.model_running.specs.Watermarks.{IsRunning}
 use Rattle.model_core.specs.declared.words.Word.TheVariants as word
 use Rattle.model_core.specs.declared.ops.Op.TheVariants as op
 use Rattle.model_core.specs.declared.steps.UserStep.TheVariants as user_step
@@ -36,7 +30,7 @@ use Rattle.model_core.specs.declared.steps.CloserStep.TheVariants as closer_step
 use Rattle.model_core.specs.declared.steps.CleanerStep.TheVariants as cleaner_step
 use Rattle.model_core.specs.declared.steps.CheckpointerStep.TheVariants as checkpointer_step
 use Rattle.model_core.specs.declared.steps.AdvanceStep.TheVariants as advance_step
-use Rattle.model_core.specs.Actors as actor
+use Rattle.model_core.specs.States as actor
 
 -- the Op doesn't add to FAILED, nor swaps it
 abbrev LeavesFailed : Op → Type 0

@@ -5,11 +5,8 @@ use lib.ListN.{get_elem?}
 use mathlib.Core.Option.{some, some-injective}
 use native.Mathlib.Decide.{ℕ_discrete}
 use Rattle.model_core.proofs.Lists.{at_set, set_again, set_at, set_else}
-use Rattle.model_core.specs.{Actor, archives, ChecksWithoutTail, filled, Filling, Fills, floor, HasHolder, HasLost, holds_tail, LostAt, Listed, lsn, next, reader_holds, reader_op, ReaderState, SharedWords, UserState}
+use Rattle.model_core.specs.{Actor, archives, ChecksWithoutTail, filled, Filling, Fills, floor, HasHolder, HasLost, holds_tail, LostAt, Listed, lsn, next, reader_holds, reader_op, ReaderState, SharedWords, UserState, DataSide, LogSide, Setup}
 use Rattle.model_core.specs.ReaderProgram.{reader_filled, reader_fills}
-use Rattle.model_core.specs.DataSide.{DataSide}
-use Rattle.model_core.specs.LogSide.{LogSide}
-use Rattle.model_core.specs.Setup.{Setup}
 use Rattle.model_core.specs.declared.ops.Op.{Op}
 use Rattle.model_core.specs.declared.ops.Op.TheVariants as op
 use Rattle.model_core.specs.declared.steps.ReaderStep.{ReaderStep}
@@ -17,7 +14,7 @@ use Rattle.model_core.specs.declared.steps.ReaderStep.TheVariants as reader_step
 use Rattle.model_core.specs.declared.words.LinkBuffer.{LinkBuffer}
 use Rattle.model_core.specs.declared.words.LinkBuffer.TheVariants as link_buffer
 use Rattle.model_core.specs.declared.words.Word.TheVariants as word
-use Rattle.model_core.specs.Actors as actor
+use Rattle.model_core.specs.States as actor
 use Rattle.model_logcore.proofs.ReaderSteps.{reads_on}
 use Rattle.model_logcore.specs.{LogGhost, ReaderFits}
 use Rattle.model_logcore.specs.LogFits as marks
@@ -27,7 +24,7 @@ use Rattle.model_running.proofs.InRun.{lost_same}
 use Rattle.model_running.proofs.ReadKeeps.{reader_goes}
 use Rattle.model_running.proofs.ReadStays.{IsFilled, ReaderIsFilled}
 use Rattle.model_running.specs.ReadHalf.{ArchiverAt, ArchiverHas, FollowerAt, HasMore, HasRunBlock, ReaderHas, ReadFits, ReadsInRun, RunBlockAt, StaysInRun}
-use Rattle.model_running.specs.RunningStore.{BothHalves}
+use Rattle.model_running.specs.Watermarks.{BothHalves}
 
 module _ (D : LogSide) (E : DataSide) (c : Setup) (m : SharedWords) (g : LogGhost) (h : PageGhost) (ls : ℕ → List Listed) (p : D.Part) (d : E.Part) (actors : List Actor) (seat : ℕ) (both : BothHalves D E c m g h ls p d actors) where
   -- a reader's own state changes

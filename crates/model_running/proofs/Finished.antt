@@ -3,26 +3,21 @@ use Rattle.std.proofs.Common.{List, Some, ap, arith, subst, sym, ℕ, ◌<◌, �
 use Rattle.model_base.specs.declared.limits.TheConstants.{LSN_LIMIT}
 use Rattle.model_base.specs.declared.shape.Shape.{Shape}
 use Rattle.model_core.proofs.Lsns.{lsn_le}
-use Rattle.model_core.specs.{Actor, flat, IsBound, lsn, SharedWords}
+use Rattle.model_core.specs.{Actor, flat, IsBound, lsn, SharedWords, LogSide, Setup}
 use Rattle.model_core.proofs.Tails.{tail_in}
 use Rattle.model_report.specs.declared.entry.Marks.{Marks}
-use Rattle.model_core.specs.LogSide.{LogSide}
-use Rattle.model_core.specs.Setup.{Setup}
 use Rattle.model_running.proofs.Groups.{history_wholes}
 use Rattle.model_running.proofs.Legality.{legal_log}
 use Rattle.model_running.proofs.Losses.{left_lines, lost_entry}
 use Rattle.model_running.proofs.Places.{bound_spans, history_spans}
 use Rattle.model_running.specs.Schedule.{HaveEnded}
 use Rattle.model_running.specs.History.{marks_in}
-use Rattle.model_running.specs.Histories.{AreWholesOf}
-use Rattle.model_running.specs.Histories.{history_of, log_spans, word_marks}
-use Rattle.model_running.specs.RunOf.{run_of}
+use Rattle.model_running.specs.Histories.{AreWholesOf, history_of, log_spans, word_marks, run_of}
 use Rattle.model_running.specs.Script.{HasSeats, IsOfScript}
 use Rattle.model_report.specs.{entry_spans, IsLeft, wholes_of}
 use Rattle.model_log.specs.{IsBoundary, Span, start_after}
 use Rattle.model_logcore.proofs.AnswersFit.{small_sn}
-use Rattle.model_logcore.specs.{LogGhost}
-use Rattle.model_logcore.specs.LogHalf.{LogHalf}
+use Rattle.model_logcore.specs.{LogGhost, LogHalf}
 use Rattle.model_script.specs.declared.script.ScriptLine.{ScriptLine}
 use Rattle.model_theorem.specs.{IsRun, LosesOnlyByFailure, Opened}
 

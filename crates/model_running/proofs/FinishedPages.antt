@@ -5,20 +5,14 @@ use lib.ListN.{get_elem?}
 use mathlib.Core.Option.{some}
 use Rattle.model_base.specs.{IsWithinLimits}
 use Rattle.model_base.specs.declared.shape.Shape.{Shape}
-use Rattle.model_core.specs.{Actor, BatchPage, changes_of, Core, Line, line_at, Listed, lsn, PageChange, SharedWords, Tiles}
-use Rattle.model_core.specs.DataSide.{DataSide}
-use Rattle.model_core.specs.LogSide.{LogSide}
-use Rattle.model_core.specs.Setup.{Setup}
+use Rattle.model_core.specs.{Actor, BatchPage, changes_of, Core, Line, line_at, Listed, lsn, PageChange, SharedWords, Tiles, DataSide, LogSide, Setup}
 use Rattle.model_running.proofs.Finished.{finished_groups}
 use Rattle.model_running.proofs.Groups.{line_below}
 use Rattle.model_running.proofs.PagePrefixes.{ArePageGroups, applied_none, ends_above, lsn_upto, passed_by, passed_start, user_upto}
-use Rattle.model_running.specs.FinishedPages.{ArePrefixes, FinishedPages}
-use Rattle.model_running.specs.OpenedPages.{HasItsPages, IsOpenedPage}
-use Rattle.model_running.specs.Histories.{AreWholesOf}
-use Rattle.model_running.specs.Histories.{history_of, word_marks}
-use Rattle.model_running.specs.RunOf.{run_of}
-use Rattle.model_running.specs.PageContents.{new_content}
-use Rattle.model_running.specs.OpenedPages.{content_in, contents_of}
+use Rattle.model_running.specs.Finished.{ArePrefixes, FinishedPages}
+use Rattle.model_running.specs.OpenedPages.{HasItsPages, IsOpenedPage, content_in, contents_of}
+use Rattle.model_running.specs.Histories.{AreWholesOf, history_of, word_marks, run_of}
+use Rattle.model_running.specs.History.{new_content}
 use Rattle.model_running.specs.Script.{IsOfScript}
 use Rattle.model_report.specs.{group_of_line, lines_of_user, wholes_of}
 use Rattle.model_report.specs.declared.entry.Marks.{Marks}
@@ -33,11 +27,11 @@ use Rattle.model_log.specs.declared.rec.Rec.{Rec}
 use Rattle.model_theorem.proofs.Fitting.{line-fits}
 use Rattle.model_theorem.proofs.Pages.{upto-none}
 use Rattle.model_theorem.specs.{AreGiven, HasPassed, IsBatchPrefix, IsKeptPrefix, Opened}
-use Rattle.model_running.specs.RunningStore.{BothHalves, IsRunning}
+use Rattle.model_running.specs.Watermarks.{BothHalves, IsRunning}
 use Rattle.model_script.specs.{group_of}
 use Rattle.model_script.specs.declared.script.ScriptLine.{ScriptLine}
 use Rattle.model_store.specs.{upto}
-use Rattle.model_core.specs.Groups as core
+use Rattle.model_core.specs.States as core
 
 -- each group of the history changes of the pages what its records say
 page_groups : (c : Setup) (script : List ScriptLine) (opened : Opened) (answered : ℕ → ℕ) (marks : Marks) (log : List core.Entry) → AreGiven script opened → IsOfScript c script opened.shape → c.log_only ≡ false

@@ -1,22 +1,18 @@
 -- A running store stands for a run.
 use Rattle.std.proofs.Common.{List, subst, sym, ℕ, ◌≡◌, ap}
 use Rattle.std.specs.Prelude.{slice_index}
-use Rattle.model_core.specs.DataSide.{DataSide}
-use Rattle.model_core.specs.{Core, lsn, Tiles}
-use Rattle.model_core.specs.LogSide.{LogSide}
-use Rattle.model_core.specs.Setup.{Setup}
+use Rattle.model_core.specs.{DataSide, LogSide, Core, lsn, Tiles, Setup}
 use Rattle.model_running.proofs.Finished.{finished_groups, finished_marks, finished_run, marks_same}
 use Rattle.model_running.specs.Finished.{StandsForRun}
-use Rattle.model_running.specs.RunOf.{run_of}
-use Rattle.model_running.specs.Histories.{history_of}
+use Rattle.model_running.specs.Histories.{run_of, history_of}
 use Rattle.model_running.specs.Script.{IsOfScript}
 use Rattle.model_report.specs.declared.entry.Marks.{Marks}
 use Rattle.model_log.specs.{start_after}
 use Rattle.model_logcore.specs.{UserFits}
-use Rattle.model_running.specs.RunningStore.{IsRunning}
+use Rattle.model_running.specs.Watermarks.{IsRunning}
 use Rattle.model_script.specs.declared.script.ScriptLine.{ScriptLine}
 use Rattle.model_theorem.specs.{Opened}
-use Rattle.model_core.specs.Actors as actor
+use Rattle.model_core.specs.States as actor
 
 -- at any moment the store stands for a run of the script
 unfoldable pub stands_for_run : (D : LogSide) (E : DataSide) (c : Setup) (script : List ScriptLine) (opened : Opened) (s : Core D E) → IsRunning D E c s → IsOfScript c script opened.shape → lsn c.base ≡ start_after opened.end → StandsForRun D E c script opened s

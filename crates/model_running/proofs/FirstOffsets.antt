@@ -4,11 +4,10 @@ use native.Mathlib.Decide.{dec_le, ℕ_discrete}
 use Rattle.model_log.specs.{crossing_end, ends_in, first_at}
 use Rattle.model_log.specs.declared.layout.TheConstants.{BLOCK_DATA}
 use Rattle.model_core.specs.{crosses, crossing, end_of, first_of, lsn}
-use Rattle.model_core.specs.Groups as core
+use Rattle.model_core.specs.States as core
 use Rattle.model_core.proofs.Lsns.{lsn_block, lsn_offset}
 use Rattle.model_core.proofs.Groups.{crosses_is}
-use Rattle.model_running.specs.Histories.{log_span}
-use Rattle.model_running.specs.Histories.{log_spans}
+use Rattle.model_running.specs.Histories.{log_span, log_spans}
 
 same_eq : (a b : ℕ) → eqb (a * 512) (512 * b) ≡ eqb a b
 same_eq a b = elim (ℕ_discrete a b) [

@@ -8,7 +8,7 @@ use Rattle.model_log.specs.{is_first, length_of}
 use Rattle.model_log.specs.declared.layout.TheConstants.{BLOCK_DATA}
 use Rattle.model_core.proofs.Groups.{crosses_is, first_base, first_from, tiles_at}
 use Rattle.model_core.specs.{end_of, first_of, IsBound, Tiles}
-use Rattle.model_core.specs.Groups as core
+use Rattle.model_core.specs.States as core
 
 -- a group that starts below a place between groups ends at or below it
 pub bound_above : (log : List core.Entry) (s end n i : ℕ) (e : core.Entry) → Tiles s log end → IsBound s log n → get_elem? log i ≡ maybe.some e → e.start < n → end_of e ≤ n

@@ -1,10 +1,9 @@
 -- The words by name and the list of words; and the one step lemma over the list.
-use Rattle.model_core.specs.Layout.{places_at}
+use Rattle.model_core.specs.{places_at, answer_of, cells_at, closed_links_at, firsts_at, flat, flat_page_words, frame_words, index, IsSized, IsWord, list_answer, Listed, oldest_end, OpWords, page_stride, page_words_at, pages_at, PageWords, read, rows, shared_answer, shared_left, SharedWords, tail_word, with_page_words, words_left, wrote}
 use Rattle.std.proofs.Common.{Bool, List, [], ap, arith, cond, eqb, false, length, refl, set, suc, suc-mul, sym, true, zero, zero-mul, ℕ, ◌%◌, ◌*◌, ◌++◌, ◌+◌, ◌<◌, ◌∙◌, ◌∷◌, ◌≡◌}
 use Rattle.std.specs.Prelude.{None, slice_index, slice_set}
 use Rattle.model_core.proofs.Groups.{back, front}
 use Rattle.model_core.proofs.Tails.{word_of}
-use Rattle.model_core.specs.{answer_of, cells_at, closed_links_at, firsts_at, flat, flat_page_words, frame_words, index, IsSized, IsWord, list_answer, Listed, oldest_end, OpWords, page_stride, page_words_at, pages_at, PageWords, read, rows, shared_answer, shared_left, SharedWords, tail_word, with_page_words, words_left, wrote}
 use Rattle.model_core.specs.declared.ops.Answer.{Answer}
 use Rattle.model_core.specs.declared.ops.Op.{Op}
 use Rattle.model_core.specs.declared.words.Layout.{Layout}

@@ -9,13 +9,12 @@ use Rattle.model_core.specs.{IsBound, IsLent, lent, lsn, stream, Tiles}
 use Rattle.model_running.proofs.FirstOffsets.{first_same}
 use Rattle.model_running.proofs.Groups.{places, streams}
 use Rattle.model_running.proofs.Places.{bound_spans, sn_back}
-use Rattle.model_running.specs.Histories.{AreWholesOf}
-use Rattle.model_running.specs.Histories.{log_spans}
+use Rattle.model_running.specs.Histories.{AreWholesOf, log_spans}
 use Rattle.model_log.proofs.BoundaryLengths.{stream_between-is}
 use Rattle.model_log.specs.{block_of, first_at, groups_of, IsBoundary, IsGivenTo, sn_of, Span, spans_of, stream_of}
 use Rattle.model_log.specs.declared.group.Whole.{Whole}
 use Rattle.model_log.specs.declared.layout.TheConstants.{BLOCK_DATA}
-use Rattle.model_core.specs.Groups as core
+use Rattle.model_core.specs.States as core
 
 pub sn_of_block : (w : ℕ) → sn_of (block_of (lsn w)) ≡ w / BLOCK_DATA * BLOCK_DATA
 unfolding lsn

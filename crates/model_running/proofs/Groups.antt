@@ -3,11 +3,9 @@ use Rattle.std.proofs.Common.{List, Some, [], ap, arith, length, refl, slice_get
 use Rattle.std.specs.List.{AllByRecursion}
 use lib.ListN.{get_elem?}
 use Rattle.model_base.specs.declared.shape.Shape.{Shape}
-use Rattle.model_core.specs.{answered, end_of, Line, line_at, lsn, stream, Tiles}
-use Rattle.model_core.specs.Setup.{Setup}
+use Rattle.model_core.specs.{answered, end_of, Line, line_at, lsn, stream, Tiles, Setup}
 use Rattle.model_running.proofs.Places.{lsn_is, sn_back, tiled_spans}
-use Rattle.model_running.specs.Histories.{AreWholesOf, IsWholeOf, log_span}
-use Rattle.model_running.specs.Histories.{history_of, log_spans}
+use Rattle.model_running.specs.Histories.{AreWholesOf, IsWholeOf, log_span, history_of, log_spans}
 use Rattle.model_running.specs.Script.{IsLineOf, IsOfScript}
 use Rattle.model_report.specs.{group_of_line, lines_of_user, wholes_of}
 use Rattle.model_report.specs.declared.entry.Marks.{Marks}
@@ -15,8 +13,8 @@ use Rattle.model_log.specs.{group_length, group_text, groups_of, HasItsLength, I
 use Rattle.model_log.specs.declared.group.Whole.{Whole}
 use Rattle.model_script.specs.declared.script.ScriptLine.{ScriptLine}
 use mathlib.Core.Option as maybe
-use Rattle.model_core.specs.Groups as core
-use Rattle.model_log.specs.Run as run
+use Rattle.model_core.specs.States as core
+use Rattle.model_log.specs.Group as run
 
 -- they stand where the log says
 pub places : (log : List core.Entry) (wholes : List Whole) → AreWholesOf log wholes → spans_of wholes ≡ log_spans log

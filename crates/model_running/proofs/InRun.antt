@@ -1,18 +1,12 @@
 -- Whatever the log device tells, the numbers of readers are those of words, they read blocks of the run, and the
 -- archiver alone appends.
-use Rattle.std.proofs.Common.{Bool, List, ap, arith, cond, eqb, false, inl, inr, refl, subst, sym, true, ℕ, ⊎_elim}
-use Rattle.std.proofs.Common.{◌%◌, ◌+◌, ◌<◌, ◌==◌, ◌∙◌, ◌≡◌, ◌≤◌}
+use Rattle.std.proofs.Common.{Bool, List, ap, arith, cond, eqb, false, inl, inr, refl, subst, sym, true, ℕ, ⊎_elim, ◌%◌, ◌+◌, ◌<◌, ◌==◌, ◌∙◌, ◌≡◌, ◌≤◌}
 use Rattle.std.proofs.lemmas.Bool.{eqb-false}
-use Rattle.model_core.specs.Answers.{oldest_in}
+use Rattle.model_core.specs.ActorProgram.{oldest_in}
 use Rattle.model_base.specs.declared.limits.TheConstants.{BLOCK_SIZE}
 use Rattle.model_core.proofs.Lsns.{floor_grows, lsn_le}
-use Rattle.model_core.specs.{Actor, archived, archives, candidate, checkpointer_took, CheckpointerState, floor}
-use Rattle.model_core.specs.{followed, has_all}
-use Rattle.model_core.specs.{has_taken, is_none, IsArchiveCode, IsLosing, is_above, Listed, LostAt, lowered, lsn}
-use Rattle.model_core.specs.{next, next_block, old_of, OwnServed, read_to, reader_op, reader_took, ReaderState}
-use Rattle.model_core.specs.{shared_answer, SharedWords, to_append, took}
-use Rattle.model_core.specs.Actors as actor
-use Rattle.model_core.specs.Setup.{Setup}
+use Rattle.model_core.specs.{Actor, archived, archives, candidate, checkpointer_took, CheckpointerState, floor, followed, has_all, has_taken, is_none, IsArchiveCode, IsLosing, is_above, Listed, LostAt, lowered, lsn, next, next_block, old_of, OwnServed, read_to, reader_op, reader_took, ReaderState, shared_answer, SharedWords, to_append, took, Setup}
+use Rattle.model_core.specs.States as actor
 use Rattle.model_core.specs.declared.ops.Answer.{Answer}
 use Rattle.model_core.specs.declared.ops.Answer.TheVariants as answer
 use Rattle.model_core.specs.declared.ops.Op.{Op}

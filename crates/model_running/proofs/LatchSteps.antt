@@ -12,7 +12,7 @@ use Rattle.model_core.specs.declared.steps.UserStep.{UserStep}
 use Rattle.model_log.specs.declared.layout.TheConstants.{BLOCK_DATA}
 use Rattle.model_pagecore.specs.{CleanerHasLatch, HasLatch, IsAmong, IsInBatch, UserHasLatch}
 use Rattle.model_core.specs.declared.steps.AdvanceStep.TheVariants as advance_step
-use Rattle.model_core.specs.Actors as actor
+use Rattle.model_core.specs.States as actor
 use Rattle.model_core.specs.declared.ops.Answer.TheVariants as answer
 use Rattle.model_core.specs.declared.steps.CleanerStep.TheVariants as cleaner_step
 use Rattle.model_core.specs.declared.steps.UserStep.TheVariants as user_step

@@ -5,11 +5,7 @@ use lib.ListN.{get_elem?}
 use mathlib.Core.Option.{some, some-injective}
 use native.Mathlib.Decide.{ℕ_discrete}
 use Rattle.model_core.proofs.Lists.{set_at, set_else}
-use Rattle.model_core.specs.{Actor, Advance, advance_op, blank_words, changes, checked_of, checkpointer_op, CheckpointerState, cleaner_op, cleaner_program, cleaner_took, CleanerState, closer_op, CloserState, current_page, Entry, first_of_batch, flusher_op, FlusherState, frame_word, group_end, heard, Listed, lsn, next, next_in_round, old_of, page_words_at, PageWords, read, shared_answer, shared_left, SharedWords, stored_word, tail_word, took, user_op, user_program, user_took, UserState, with_page_words, writer_op, WriterState, wrote}
-use Rattle.model_core.specs.{reader_op, ReaderState}
-use Rattle.model_core.specs.DataSide.{DataSide}
-use Rattle.model_core.specs.LogSide.{LogSide}
-use Rattle.model_core.specs.Setup.{Setup}
+use Rattle.model_core.specs.{Actor, Advance, advance_op, blank_words, changes, checked_of, checkpointer_op, CheckpointerState, cleaner_op, cleaner_program, cleaner_took, CleanerState, closer_op, CloserState, current_page, Entry, first_of_batch, flusher_op, FlusherState, frame_word, group_end, heard, Listed, lsn, next, next_in_round, old_of, page_words_at, PageWords, read, shared_answer, shared_left, SharedWords, stored_word, tail_word, took, user_op, user_program, user_took, UserState, with_page_words, writer_op, WriterState, wrote, reader_op, ReaderState, DataSide, LogSide, Setup}
 use Rattle.model_core.specs.declared.ops.Answer.{Answer}
 use Rattle.model_core.specs.declared.ops.Op.{Op}
 use Rattle.model_core.specs.declared.steps.CheckpointerStep.{CheckpointerStep}
@@ -23,12 +19,11 @@ use Rattle.model_logcore.specs.{LogGhost}
 use Rattle.model_pagecore.specs.{CleanerFits, CleanerHasLatch, Grows, HasLatch, HoldsOnly, PageFits, PageGhost, UserHasLatch, UserPageFits, UserPagesAt}
 use Rattle.model_pagecore.specs.PageHalf.{PageHalf}
 use Rattle.model_running.proofs.LatchSteps.{cleaner_goes, cleaner_hears, latch_taken, user_goes, user_hears}
-use Rattle.model_running.specs.LatchesHeld.{LatchesAreHeld}
-use Rattle.model_running.specs.RunningStore.{BothHalves}
+use Rattle.model_running.specs.Watermarks.{LatchesAreHeld, BothHalves}
 use Rattle.model_core.specs.declared.steps.AdvanceStep.TheVariants as advance_step
 use Rattle.model_core.specs.declared.words.LinkBuffer.TheVariants as link_buffer
 use Rattle.model_core.specs.declared.words.LinkBuffer.{LinkBuffer}
-use Rattle.model_core.specs.Actors as actor
+use Rattle.model_core.specs.States as actor
 use Rattle.model_core.specs.declared.ops.Answer.TheVariants as answer
 use Rattle.model_core.specs.declared.ops.Op.TheVariants as op
 use Rattle.model_core.specs.declared.steps.CheckpointerStep.TheVariants as checkpointer_step

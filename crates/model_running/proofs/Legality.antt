@@ -4,8 +4,7 @@ use Rattle.std.proofs.lemmas.Bool.{eqb-true, le-ltb, ltb-false, ltb-true}
 use Rattle.std.specs.Prelude.{nat_le}
 use lib.ListN.{get_elem?}
 use Rattle.model_base.specs.declared.shape.Shape.{Shape}
-use Rattle.model_core.specs.{answered, end_of, entry, Line, line_at, lsn, mode}
-use Rattle.model_core.specs.Setup.{Setup}
+use Rattle.model_core.specs.{answered, end_of, entry, Line, line_at, lsn, mode, Setup}
 use Rattle.model_running.proofs.Groups.{line_below}
 use Rattle.model_running.proofs.Places.{history_spans, lsn_is, sn_back, tiled_spans}
 use Rattle.model_running.specs.History.{history_entry, state_of}
@@ -21,7 +20,7 @@ use Rattle.model_logcore.specs.{Commits, count_of, Place, Tiled}
 use Rattle.model_script.specs.{group_of}
 use Rattle.model_script.specs.declared.script.ScriptLine.{ScriptLine}
 use mathlib.Core.Option as maybe
-use Rattle.model_core.specs.Groups as core
+use Rattle.model_core.specs.States as core
 
 -- an element of the history is that of a group
 pub from_log : (answered : ℕ → ℕ) (marks : Marks) (log : List core.Entry) (i : ℕ) (entry : Entry) → slice_get (history_of answered marks log) i ≡ Some entry → (e : core.Entry) × (get_elem? log i ≡ maybe.some e) × (history_entry answered marks e ≡ entry)

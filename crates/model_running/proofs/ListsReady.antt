@@ -3,11 +3,7 @@ use Rattle.std.proofs.Common.{Bool, List, [], arith, cond, false, get_or, length
 use lib.ListN.{get_elem?}
 use mathlib.Core.Option.{some}
 use native.Mathlib.Decide.{dec_le}
-use Rattle.model_core.specs.{Actor, BatchPage, checkpointer_op, CheckpointerState, cleaner_op, CleanerState, closer_op, CloserState, current_page, flusher_op, FlusherState, Listed, lsn, next, no_page, oldest_of, SharedWords, user_op, UserState, writer_op, WriterState}
-use Rattle.model_core.specs.{reader_op, ReaderState}
-use Rattle.model_core.specs.DataSide.{DataSide}
-use Rattle.model_core.specs.LogSide.{LogSide}
-use Rattle.model_core.specs.Setup.{Setup}
+use Rattle.model_core.specs.{Actor, BatchPage, checkpointer_op, CheckpointerState, cleaner_op, CleanerState, closer_op, CloserState, current_page, flusher_op, FlusherState, Listed, lsn, next, no_page, oldest_of, SharedWords, user_op, UserState, writer_op, WriterState, reader_op, ReaderState, DataSide, LogSide, Setup}
 use Rattle.model_core.specs.declared.ops.Op.{Op}
 use Rattle.model_core.specs.declared.steps.CheckpointerStep.{CheckpointerStep}
 use Rattle.model_core.specs.declared.steps.CleanerStep.{CleanerStep}
@@ -21,8 +17,8 @@ use Rattle.model_logcore.proofs.Ready.{ready}
 use Rattle.model_logcore.specs.{LogGhost}
 use Rattle.model_pagecore.proofs.PageHistory.{each_more}
 use Rattle.model_pagecore.specs.{CleanerAt, CleanerFits, PageGhost, UserPageFits, UserPagesAt}
-use Rattle.model_running.specs.ListReady.{ListReady}
-use Rattle.model_running.specs.RunningStore.{BothHalves}
+use Rattle.model_running.specs.Ready.{ListReady}
+use Rattle.model_running.specs.Watermarks.{BothHalves}
 use Rattle.model_core.specs.declared.words.Word.TheVariants as word
 use Rattle.model_core.specs.declared.ops.Op.TheVariants as op
 use Rattle.model_core.specs.declared.steps.UserStep.TheVariants as user_step
@@ -33,7 +29,7 @@ use Rattle.model_core.specs.declared.steps.CloserStep.TheVariants as closer_step
 use Rattle.model_core.specs.declared.steps.CleanerStep.TheVariants as cleaner_step
 use Rattle.model_core.specs.declared.steps.CheckpointerStep.TheVariants as checkpointer_step
 use Rattle.model_core.specs.declared.steps.AdvanceStep.TheVariants as advance_step
-use Rattle.model_core.specs.Actors as actor
+use Rattle.model_core.specs.States as actor
 
 module _ (D : LogSide) (E : DataSide) (c : Setup) (m : SharedWords) (g : LogGhost) (h : PageGhost) (ls : ℕ → List Listed) (p : D.Part) (d : E.Part) (actors : List Actor) (seat : ℕ) (both : BothHalves D E c m g h ls p d actors) where
   user_lists : (u : UserState) → get_elem? actors seat ≡ some (actor.User u) → (f : UserStep) → UserPagesAt E c m g.log h ls d seat u f → ListReady c.pages ls (user_op u f)

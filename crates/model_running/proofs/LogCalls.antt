@@ -2,13 +2,7 @@
 use Rattle.std.proofs.Common.{Bool, List, ap, arith, cond, false, refl, subst, true, ℕ, ◌≡◌, ◌≤◌}
 use lib.ListN.{get_elem?}
 use mathlib.Core.Option.{some}
-use Rattle.model_core.specs.{Actor, Batch, Blocks, checkpointer_op, CheckpointerState, cleaner_op, CleanerState, closer_op}
-use Rattle.model_core.specs.{CloserState, flusher_op, FlusherState, Lent, lent, Listed, LogServed, lsn, next, next_block, Nothing}
-use Rattle.model_core.specs.{reader_op, ReaderState, SharedWords, user_op, UserState, writer_op, WriterState}
-use Rattle.model_core.specs.Actors.{Room}
-use Rattle.model_core.specs.DataSide.{DataSide}
-use Rattle.model_core.specs.LogSide.{LogSide}
-use Rattle.model_core.specs.Setup.{Setup}
+use Rattle.model_core.specs.{Actor, Batch, Blocks, checkpointer_op, CheckpointerState, cleaner_op, CleanerState, closer_op, CloserState, flusher_op, FlusherState, Lent, lent, Listed, LogServed, lsn, next, next_block, Nothing, reader_op, ReaderState, SharedWords, user_op, UserState, writer_op, WriterState, Room, DataSide, LogSide, Setup}
 use Rattle.model_core.specs.declared.ops.Op.{Op}
 use Rattle.model_core.specs.declared.steps.CheckpointerStep.{CheckpointerStep}
 use Rattle.model_core.specs.declared.steps.CleanerStep.{CleanerStep}
@@ -23,9 +17,9 @@ use Rattle.model_logcore.specs.LogLaws.{AfterCheckpoint, AfterRead, AfterSync, A
 use Rattle.model_pagecore.specs.DataLaws.{DataLaws}
 use Rattle.model_pagecore.specs.{PageGhost}
 use Rattle.model_running.proofs.CallConditions.{can_checkpoint}
-use Rattle.model_running.specs.RunningStore.{BothHalves}
+use Rattle.model_running.specs.Watermarks.{BothHalves}
 use Rattle.model_core.specs.declared.steps.AdvanceStep.TheVariants as advance_step
-use Rattle.model_core.specs.Actors as actor
+use Rattle.model_core.specs.States as actor
 use Rattle.model_core.specs.declared.ops.Op.TheVariants as op
 use Rattle.model_core.specs.declared.steps.CheckpointerStep.TheVariants as checkpointer_step
 use Rattle.model_core.specs.declared.steps.CleanerStep.TheVariants as cleaner_step

@@ -1,33 +1,27 @@
 -- The turns of the writer, the flusher and the closer keep the page half.
 use Rattle.model_core.specs.ReaderProgram.{next_block}
-use Rattle.model_core.specs.Actors.{Room}
+use Rattle.model_core.specs.{Room, Actor, Blocks, checked, closer_op, closer_took, CloserState, DataServed, Entry, flusher_op, FlusherState, Listed, lists_left, LogServed, Nothing, old_of, own_took, shared_answer, shared_left, SharedWords, writer_op, WriterState, advance_op, after, found, tail_word, wrote, reader_op, ReaderState, DataSide, LogSide, Setup}
 use Rattle.std.proofs.Common.{Bool, List, arith, cond, eqb, false, refl, set, subst, true, ℕ, ◌≡◌, ◌≤◌}
 use Rattle.std.specs.Prelude.{slice_index}
 use lib.ListN.{get_elem?}
 use mathlib.Core.Option.{some}
-use Rattle.model_core.specs.{Actor, Blocks, checked, closer_op, closer_took, CloserState, DataServed, Entry, flusher_op, FlusherState, Listed, lists_left, LogServed, Nothing, old_of, own_took, shared_answer, shared_left, SharedWords, writer_op, WriterState, advance_op, after, found, tail_word, wrote}
-use Rattle.model_core.specs.{reader_op, ReaderState}
-use Rattle.model_core.specs.DataSide.{DataSide}
-use Rattle.model_core.specs.LogSide.{LogSide}
-use Rattle.model_core.specs.Setup.{Setup}
 use Rattle.model_core.specs.declared.steps.CloserStep.{CloserStep}
 use Rattle.model_core.specs.declared.steps.WriterStep.{WriterStep}
 use Rattle.model_core.specs.declared.steps.FlusherStep.{FlusherStep}
 use Rattle.model_core.specs.declared.steps.ReaderStep.{ReaderStep}
 use Rattle.model_logcore.proofs.DeviceSteps.{can_write}
-use Rattle.model_logcore.specs.{LogGhost}
-use Rattle.model_logcore.specs.LogHalf.{LogHalf}
+use Rattle.model_logcore.specs.{LogGhost, LogHalf}
 use Rattle.model_logcore.specs.LogLaws.{LogLaws}
 use Rattle.model_pagecore.proofs.CloserSteps.{keeps_closer_advance}
 use Rattle.model_pagecore.proofs.PageStep.{page_quiet}
 use Rattle.model_pagecore.specs.{CloserFits, PageGhost}
-use Rattle.model_running.specs.RunningStore.{BothHalves}
+use Rattle.model_running.specs.Watermarks.{BothHalves}
 use Rattle.model_core.specs.declared.steps.CloserStep.TheVariants as closer_step
 use Rattle.model_core.specs.declared.steps.AdvanceStep.TheVariants as advance_step
 use Rattle.model_core.specs.declared.words.LinkBuffer.TheVariants as link_buffer
 use Rattle.model_core.specs.declared.steps.AdvanceStep.{AdvanceStep}
 use Rattle.model_core.specs.declared.ops.Answer.TheVariants as answer
-use Rattle.model_core.specs.Actors as actor
+use Rattle.model_core.specs.States as actor
 use Rattle.model_core.specs.declared.words.Word.TheVariants as word
 use Rattle.model_core.specs.declared.ops.Op.TheVariants as op
 use Rattle.model_core.specs.declared.steps.WriterStep.TheVariants as writer_step

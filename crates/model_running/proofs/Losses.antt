@@ -3,9 +3,7 @@ use Rattle.std.proofs.Common.{List, Some, [], ap, arith, cond, inl, inr, length,
 use lib.ListN.{get_elem?}
 use native.Mathlib.Decide.{dec_le, ℕ_discrete}
 use Rattle.model_base.specs.declared.shape.Shape.{Shape}
-use Rattle.model_core.specs.{Actor, entries, entries_from, entry, found, Line, line_at, SharedWords, sum_of, UserState}
-use Rattle.model_core.specs.LogSide.{LogSide}
-use Rattle.model_core.specs.Setup.{Setup}
+use Rattle.model_core.specs.{Actor, entries, entries_from, entry, found, Line, line_at, SharedWords, sum_of, UserState, LogSide, Setup}
 use Rattle.model_running.proofs.Legality.{counts, from_log, lost_unanswered}
 use Rattle.model_running.specs.Histories.{history_of}
 use Rattle.model_running.specs.Script.{HasSeats, IsOfScript}
@@ -15,18 +13,16 @@ use Rattle.model_report.specs.declared.entry.Marks.{Marks}
 use Rattle.model_report.specs.declared.entry.State.TheVariants.{Lost}
 use Rattle.model_logcore.proofs.UserGroups.{count_front, count_some, none_of}
 use Rattle.model_logcore.proofs.WriterSteps.{own}
-use Rattle.model_logcore.specs.{count_of, LogGhost, sum_over_actors, UserAt, UserFits}
-use Rattle.model_logcore.specs.LogHalf.{LogHalf}
+use Rattle.model_logcore.specs.{count_of, LogGhost, sum_over_actors, UserAt, UserFits, LogHalf}
 use Rattle.model_running.specs.Schedule.{HasEnded, HaveEnded}
 use Rattle.model_script.specs.declared.script.ScriptLine.{ScriptLine}
 use Rattle.model_core.specs.declared.steps.UserStep.{UserStep}
 use Rattle.model_core.specs.declared.steps.UserStep.TheVariants as user_step
-use Rattle.model_core.specs.Actors as actor
+use Rattle.model_core.specs.States as actor
 use mathlib.Core.Option as maybe
-use Rattle.model_core.specs.Groups as core
 
 -- one of the actors has what all have together
-seat_from : (h : core.Entry → ℕ) (actors : List Actor) → 0 < sum_over_actors (λ a. sum_of h (entries a)) actors → (seat : ℕ) × (a : Actor) × (get_elem? actors seat ≡ maybe.some a) × (0 < sum_of h (entries a))
+seat_from : (h : actor.Entry → ℕ) (actors : List Actor) → 0 < sum_over_actors (λ a. sum_of h (entries a)) actors → (seat : ℕ) × (a : Actor) × (get_elem? actors seat ≡ maybe.some a) × (0 < sum_of h (entries a))
 seat_from h [] more = absurd (omega arith)
 seat_from h (x ∷ xs) more = elim (dec_le 1 (sum_of h (entries x))) [
   | yes d ↦ (0, x, refl, omega arith)
@@ -55,12 +51,12 @@ module _ (D : LogSide) (c : Setup) (m : SharedWords) (g : LogGhost) (p : D.Part)
         (λ failed. let z : UserAt D c m g p seat u user_step.Failed = subst (UserAt D c m g p seat u) failed f.step in let y = z.0 in (failed, omega arith, z.1))
         (ended_users seat u at)
 
-    by_actor : (e : core.Entry) (k seat : ℕ) (a : Actor) → get_elem? actors seat ≡ maybe.some a → 0 < count_of e.user (entries a) → k < count_of e.user g.log → g.answered e.user ≤ k → 0 < m.failed
+    by_actor : (e : actor.Entry) (k seat : ℕ) (a : Actor) → get_elem? actors seat ≡ maybe.some a → 0 < count_of e.user (entries a) → k < count_of e.user g.log → g.answered e.user ≤ k → 0 < m.failed
     by_actor e k seat (actor.User u) at more below unanswered = (ended_here e.user k seat u at (own_user u.user e.user u.lines 0 u.starts more) below unanswered).2
     by_actor e k seat _ at more below unanswered = absurd (omega arith)
 
     -- where a group's commit isn't answered its user has met a failure
-    pub unanswered_group : (i : ℕ) (e : core.Entry) → get_elem? g.log i ≡ maybe.some e → g.answered e.user ≤ e.k → 0 < m.failed
+    pub unanswered_group : (i : ℕ) (e : actor.Entry) → get_elem? g.log i ≡ maybe.some e → g.answered e.user ≤ e.k → 0 < m.failed
     unanswered_group i e is unanswered =
         let more = count_some g.log i e is in
         let all = half.counted (λ x. cond (x.user == e.user) 1 0) in
@@ -73,7 +69,7 @@ module _ (D : LogSide) (c : Setup) (m : SharedWords) (g : LogGhost) (p : D.Part)
     pub lost_entry : (marks : Marks) (i : ℕ) (one : Entry) → slice_get (history_of g.answered marks g.log) i ≡ Some one → one.state ≡ Lost → 0 < m.failed
     lost_entry marks i one found lost =
         let r = from_log g.answered marks g.log i one found in
-        let e : core.Entry = r.0 in
+        let e : actor.Entry = r.0 in
         let n = lost_unanswered (g.answered e.user) marks e (ap (λ (z : Entry). z.state) r.2 ∙ lost) in
         unanswered_group i e r.1 n
 

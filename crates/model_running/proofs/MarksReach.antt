@@ -3,11 +3,8 @@ use Rattle.std.proofs.Common.{arith, ℕ, ◌≡◌, ◌≤◌}
 use lib.ListN.{get_elem?}
 use mathlib.Core.Option as maybe
 use Rattle.model_core.proofs.Lsns.{lsn_le}
-use Rattle.model_core.specs.{Core, SharedWords}
-use Rattle.model_core.specs.Actors as model
-use Rattle.model_core.specs.DataSide.{DataSide}
-use Rattle.model_core.specs.LogSide.{LogSide}
-use Rattle.model_core.specs.Setup.{Setup}
+use Rattle.model_core.specs.{Core, SharedWords, DataSide, LogSide, Setup}
+use Rattle.model_core.specs.States as model
 use Rattle.model_running.specs.Histories.{word_marks}
 use Rattle.model_running.specs.Watermarks.{HasMarksWithin, HasWatermarks}
 

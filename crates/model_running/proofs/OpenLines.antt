@@ -4,9 +4,7 @@ use Rattle.std.proofs.Common.{List, Some, [], ap, arith, inl, inr, length, refl,
 use lib.ListN.{get_elem?}
 use native.Mathlib.Decide.{dec_le, ℕ_discrete}
 use Rattle.model_base.specs.declared.shape.Shape.{Shape}
-use Rattle.model_core.specs.{Actor, SharedWords, UserState}
-use Rattle.model_core.specs.LogSide.{LogSide}
-use Rattle.model_core.specs.Setup.{Setup}
+use Rattle.model_core.specs.{Actor, SharedWords, UserState, LogSide, Setup}
 use Rattle.model_running.proofs.Legality.{counts, lost_unanswered, ranked, unanswered_lost}
 use Rattle.model_running.proofs.Losses.{answered_is, open_line}
 use Rattle.model_running.specs.Histories.{history_of}
@@ -17,17 +15,15 @@ use Rattle.model_report.specs.declared.entry.Entry.{Entry}
 use Rattle.model_report.specs.declared.entry.Marks.{Marks}
 use Rattle.model_report.specs.declared.entry.State.TheVariants.{Lost}
 use Rattle.model_logcore.proofs.UserGroups.{count_front, none_of}
-use Rattle.model_logcore.specs.{count_of, LogGhost, UserAt, UserFits}
-use Rattle.model_logcore.specs.LogHalf.{LogHalf}
+use Rattle.model_logcore.specs.{count_of, LogGhost, UserAt, UserFits, LogHalf}
 use Rattle.model_running.specs.Schedule.{HasEnded}
 use Rattle.model_script.specs.declared.script.ScriptLine.{ScriptLine}
 use Rattle.model_core.specs.declared.steps.UserStep.TheVariants as user_step
-use Rattle.model_core.specs.Actors as actor
-use Rattle.model_core.specs.Groups as core
+use Rattle.model_core.specs.States as actor
 use mathlib.Core.Option as maybe
 
 -- a user that is counted has a group
-found_of : (v : ℕ) (log : List core.Entry) → 0 < count_of v log → (i : ℕ) × (e : core.Entry) × (get_elem? log i ≡ maybe.some e) × (e.user ≡ v)
+found_of : (v : ℕ) (log : List actor.Entry) → 0 < count_of v log → (i : ℕ) × (e : actor.Entry) × (get_elem? log i ≡ maybe.some e) × (e.user ≡ v)
 found_of v [] more = absurd (omega arith)
 found_of v (x ∷ xs) more = elim (ℕ_discrete x.user v) [
   | yes own ↦ (zero, x, refl, own)

@@ -17,7 +17,7 @@ use Rattle.model_log.specs.declared.group.Whole.{Whole}
 use Rattle.model_theorem.proofs.Pages.{left, taken, upto-none}
 use Rattle.model_theorem.specs.{HasPassed}
 use Rattle.model_store.specs.{page_after, upto, user_after}
-use Rattle.model_core.specs.Groups as core
+use Rattle.model_core.specs.States as core
 use Rattle.model_pagecore.specs.Pages as pages_of
 use Rattle.model_store.specs.Apply as apply
 use mathlib.Core.Option as maybe

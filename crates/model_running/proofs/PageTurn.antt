@@ -4,19 +4,15 @@ use lib.ListN.{get_elem?}
 use mathlib.Core.Option.{some}
 use Rattle.model_core.proofs.Lists.{set_again}
 use Rattle.model_core.proofs.Lsns.{lsn_le}
-use Rattle.model_core.specs.{Actor, Entry, Listed, lsn, SharedWords, UserState}
-use Rattle.model_core.specs.DataSide.{DataSide}
-use Rattle.model_core.specs.LogSide.{LogSide}
-use Rattle.model_core.specs.Setup.{Setup}
-use Rattle.model_logcore.specs.{LogGhost, UserFits}
-use Rattle.model_logcore.specs.LogHalf.{LogHalf}
+use Rattle.model_core.specs.{Actor, Entry, Listed, lsn, SharedWords, UserState, DataSide, LogSide, Setup}
+use Rattle.model_logcore.specs.{LogGhost, UserFits, LogHalf}
 use Rattle.model_pagecore.proofs.PageHistory.{laid}
 use Rattle.model_pagecore.proofs.PageFrame.{pages_same, user_page_fits_later}
 use Rattle.model_pagecore.proofs.PageStep.{grown}
 use Rattle.model_pagecore.specs.{Grows, Laid, PageFits, PageGhost, UserPageFits}
 use Rattle.model_pagecore.specs.PageHalf.{PageHalf}
-use Rattle.model_running.specs.RunningStore.{BothHalves}
-use Rattle.model_core.specs.Actors as actor
+use Rattle.model_running.specs.Watermarks.{BothHalves}
+use Rattle.model_core.specs.States as actor
 
 module _ (D : LogSide) (E : DataSide) (c : Setup) (m : SharedWords) (h : PageGhost) (actors : List Actor) (seat : ℕ) where
   -- the page half after a turn, in which the parts came to q and e

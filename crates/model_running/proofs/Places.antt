@@ -2,13 +2,12 @@
 use Rattle.std.proofs.Common.{Bool, List, [], ap, arith, cond, false, inl, inr, length, ltb, refl, subst, sym, ℕ, ⊎_elim, ◌%◌, ◌*◌, ◌+◌, ◌-◌, ◌/◌, ◌∙◌, ◌∷◌, ◌≡◌}
 use Rattle.std.proofs.lemmas.Bool.{le-ltb}
 use Rattle.model_core.specs.{answered, IsBound, lsn, Tiles}
-use Rattle.model_running.specs.Histories.{log_span}
-use Rattle.model_running.specs.Histories.{history_of, log_spans}
+use Rattle.model_running.specs.Histories.{log_span, history_of, log_spans}
 use Rattle.model_report.specs.{entry_spans}
 use Rattle.model_report.specs.declared.entry.Marks.{Marks}
 use Rattle.model_log.specs.{IsBoundary, IsTiled, lsn_of, sn_of, Span}
 use Rattle.model_log.specs.declared.layout.TheConstants.{BLOCK_DATA}
-use Rattle.model_core.specs.Groups as core
+use Rattle.model_core.specs.States as core
 
 -- an sn comes back from its lsn
 pub sn_back : (x : ℕ) → sn_of (lsn x) ≡ x

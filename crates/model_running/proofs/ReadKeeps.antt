@@ -6,16 +6,13 @@ use Rattle.model_base.specs.declared.limits.TheConstants.{BLOCK_SIZE}
 use Rattle.model_core.proofs.Groups.{bound_snoc, stream_long, stream_snoc}
 use Rattle.model_core.proofs.Lsns.{floor_grows, lsn_le, lsn_less, lsn_offset}
 use Rattle.std.proofs.lemmas.Bool.Decides.{nat_tests}
-use Rattle.model_core.specs.{Actor, archives, block_end, CheckpointerState, end_of, Entry, floor, Given, IsBound, lsn, next_block, read_to, ReaderState, SharedWords, stream, Tiles}
-use Rattle.model_core.specs.LogSide.{LogSide}
-use Rattle.model_core.specs.Setup.{Setup}
-use Rattle.model_core.specs.Actors as actor
+use Rattle.model_core.specs.{Actor, archives, block_end, CheckpointerState, end_of, Entry, floor, Given, IsBound, lsn, next_block, read_to, ReaderState, SharedWords, stream, Tiles, LogSide, Setup}
+use Rattle.model_core.specs.States as actor
 use Rattle.model_core.specs.declared.steps.CheckpointerStep.{CheckpointerStep}
 use Rattle.model_core.specs.declared.steps.CheckpointerStep.TheVariants as checkpointer_step
 use Rattle.model_core.specs.declared.steps.ReaderStep.{ReaderStep}
 use Rattle.model_core.specs.declared.steps.ReaderStep.TheVariants as reader_step
-use Rattle.model_log.specs.{sn_of}
-use Rattle.model_log.specs.Block.{block_view, data_of}
+use Rattle.model_log.specs.{sn_of, block_view, data_of}
 use Rattle.model_log.specs.declared.layout.TheConstants.{BLOCK_DATA}
 use Rattle.model_logcore.specs.LogLaws.{CanRead, HasBlock}
 use Rattle.model_running.proofs.Following.{AreTexts, bound_from, bound_upto, piece_grown}

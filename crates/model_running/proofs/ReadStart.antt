@@ -3,9 +3,7 @@ use Rattle.std.proofs.Common.{Bool, List, [], ap, arith, cond, drop, eqb, false,
 use Rattle.std.specs.Prelude.{slice_index}
 use Rattle.model_base.specs.declared.limits.TheConstants.{BLOCK_SIZE}
 use Rattle.model_core.proofs.Lsns.{lsn_block, lsn_offset}
-use Rattle.model_core.specs.{archives, CheckpointerState, floor, IsText, LostAt, lsn, new_checkpointer, new_reader, ReaderState, SharedWords}
-use Rattle.model_core.specs.Setup.{Setup}
-use Rattle.model_core.specs.StartWords.{start_checkpoint}
+use Rattle.model_core.specs.{archives, CheckpointerState, floor, IsText, LostAt, lsn, new_checkpointer, new_reader, ReaderState, SharedWords, Setup, start_checkpoint}
 use Rattle.model_core.specs.declared.limits.TheConstants.{READERS}
 use Rattle.model_core.specs.declared.steps.ReaderStep.TheVariants as reader_step
 use Rattle.model_log.specs.declared.layout.TheConstants.{BLOCK_DATA}

@@ -6,10 +6,7 @@ use native.Mathlib.Decide.{ℕ_discrete}
 use lib.ListN.{get_elem?}
 use mathlib.Core.Option.{some}
 use Rattle.model_core.proofs.Lists.{at_set}
-use Rattle.model_core.specs.{Actor, Advance, advance_op, archives, AreInFront, checked, checkpointer_op, checkpointer_took, CheckpointerState, cleaner_op, CleanerState, closer_op, CloserState, Entry, entry, floor, flusher_op, FlusherState, IsText, is_above, lent, LostAt, line, Listed, log_left, LogServed, lowered, next, next_block, old_of, oldest_end, own_took, pending, phase_log, reader_op, reader_took, ReaderState, Room, shared_answer, shared_left, SharedWords, tail_of, tail_word, Tiles, took, user_op, UserState, writer_op, WriterState, wrote}
-use Rattle.model_core.specs.DataSide.{DataSide}
-use Rattle.model_core.specs.LogSide.{LogSide}
-use Rattle.model_core.specs.Setup.{Setup}
+use Rattle.model_core.specs.{Actor, Advance, advance_op, archives, AreInFront, checked, checkpointer_op, checkpointer_took, CheckpointerState, cleaner_op, CleanerState, closer_op, CloserState, Entry, entry, floor, flusher_op, FlusherState, IsText, is_above, lent, LostAt, line, Listed, log_left, LogServed, lowered, next, next_block, old_of, oldest_end, own_took, pending, phase_log, reader_op, reader_took, ReaderState, Room, shared_answer, shared_left, SharedWords, tail_of, tail_word, Tiles, took, user_op, UserState, writer_op, WriterState, wrote, DataSide, LogSide, Setup}
 use Rattle.model_core.specs.declared.ops.Answer.TheVariants as answer
 use Rattle.model_core.specs.declared.ops.Op.{Op}
 use Rattle.model_core.specs.declared.ops.Op.TheVariants as op
@@ -33,7 +30,7 @@ use Rattle.model_core.specs.declared.words.LinkBuffer.{LinkBuffer}
 use Rattle.model_core.specs.declared.words.LinkBuffer.TheVariants as link_buffer
 use Rattle.model_core.specs.declared.words.Word.{Word}
 use Rattle.model_core.specs.declared.words.Word.TheVariants as word
-use Rattle.model_core.specs.Actors as actor
+use Rattle.model_core.specs.States as actor
 use Rattle.model_core.specs.NamedWords.{read}
 use Rattle.model_logcore.specs.{LogGhost}
 use Rattle.model_logcore.specs.LogLaws.{HasBlock, LogLaws}
@@ -45,7 +42,7 @@ use Rattle.model_running.proofs.Following.{AreTexts}
 use Rattle.model_running.proofs.ReadKeeps.{candidate_later, can_read, LogGrows, others_read, reader_goes, reader_later, reads_piece}
 use Rattle.model_running.proofs.ReadTurns.{appends, begins, loads_place, lower, reads_block, reads_flushed, stores_place}
 use Rattle.model_running.specs.ReadHalf.{ArchiverAt, CandidateAt, CandidateFits, FollowerAt, HasMore, ReaderHas, ReadFits, ReadHalf, ReadsInRun}
-use Rattle.model_running.specs.RunningStore.{BothHalves}
+use Rattle.model_running.specs.Watermarks.{BothHalves}
 
 -- a reader that is about to give the log part back has the whole groups in front of what it then has
 abbrev pub ReaderIsFilled : ReaderState → ReaderStep → Type 0

@@ -7,8 +7,7 @@ use Rattle.std.specs.Prelude.{min, nat_le, slice_index, slice_set}
 use Rattle.model_base.specs.declared.limits.TheConstants.{BLOCK_SIZE}
 use Rattle.model_core.proofs.Groups.{tiles_le}
 use Rattle.model_core.proofs.Lsns.{floor_grows, lsn_le, lsn_less}
-use Rattle.model_core.specs.{archived, archives, AreInFront, block_end, CheckpointerState, Entry, floor, followed, Given, has_all, IsBound, is_none, IsText, joined_texts, lsn, next_piece, pending, placed_at, read_to, reader_took, ReaderState, SharedWords, stream, Tiles, to_append}
-use Rattle.model_core.specs.Setup.{Setup}
+use Rattle.model_core.specs.{archived, archives, AreInFront, block_end, CheckpointerState, Entry, floor, followed, Given, has_all, IsBound, is_none, IsText, joined_texts, lsn, next_piece, pending, placed_at, read_to, reader_took, ReaderState, SharedWords, stream, Tiles, to_append, Setup}
 use Rattle.model_core.specs.declared.ops.Answer.TheVariants as answer
 use Rattle.model_core.specs.declared.steps.CheckpointerStep.TheVariants as checkpointer_step
 use Rattle.model_core.specs.declared.steps.ReaderStep.TheVariants as reader_step

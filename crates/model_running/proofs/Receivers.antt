@@ -1,19 +1,14 @@
 -- What a follower has handed on is the groups of the log up to its place, in the log's order: each turn keeps that.
-use Rattle.std.proofs.Common.{Bool, List, [], ap, append-nil, arith, cond, eqb, false, refl, set, subst, sym, true, ℕ}
-use Rattle.std.proofs.Common.{◌++◌, ◌==◌, ◌∙◌, ◌≡◌, ◌≢◌}
+use Rattle.std.proofs.Common.{Bool, List, [], ap, append-nil, arith, cond, eqb, false, refl, set, subst, sym, true, ℕ, ◌++◌, ◌==◌, ◌∙◌, ◌≡◌, ◌≢◌}
 use Rattle.std.proofs.lemmas.Bool.{eq-eqb, ne_eqb}
 use native.Mathlib.Decide.{ℕ_discrete}
 use lib.ListN.{get_elem?}
 use mathlib.Core.Option.{some, some-injective}
 use Rattle.model_core.proofs.Lists.{set_at, set_else}
-use Rattle.model_core.specs.{Actor, after_of, archives, AreInFront, Core, Entry, filled, Filling, followed, Given, has_all}
-use Rattle.model_core.specs.{Listed, log_left, old_of, pending, placed_at, reader_program, reader_took, ReaderState, SharedWords, to_append, took}
-use Rattle.model_core.specs.Actors as actor
-use Rattle.model_core.specs.DataSide.{DataSide}
-use Rattle.model_core.specs.LogSide.{LogSide}
+use Rattle.model_core.specs.{Actor, after_of, archives, AreInFront, Core, Entry, filled, Filling, followed, Given, has_all, Listed, log_left, old_of, pending, placed_at, reader_program, reader_took, ReaderState, SharedWords, to_append, took, DataSide, LogSide, Setup}
+use Rattle.model_core.specs.States as actor
 use Rattle.model_core.specs.ReaderProgram.{reader_filled}
-use Rattle.model_core.specs.Setup.{Setup}
-use Rattle.model_core.specs.Turn.{Turn}
+use Rattle.model_core.specs.Program.{Turn}
 use Rattle.model_core.specs.declared.ops.Answer.{Answer}
 use Rattle.model_core.specs.declared.ops.Step.{Step}
 use Rattle.model_core.specs.declared.steps.ReaderStep.{ReaderStep}
@@ -30,7 +25,7 @@ use Rattle.model_running.proofs.ReadKeeps.{groups_later, LogGrows}
 use Rattle.model_running.proofs.ReadStays.{IsFilled, ReaderIsFilled, reserved, same_log, texts_of_log}
 use Rattle.model_running.proofs.ReadTurns.{follows}
 use Rattle.model_running.specs.ReadHalf.{FollowerAt, FollowerHas, groups_upto, handed, handed_at, HasByKind, ReaderHas}
-use Rattle.model_running.specs.RunningStore.{BothHalves, IsRunning}
+use Rattle.model_running.specs.Watermarks.{BothHalves, IsRunning}
 
 module _ (D : LogSide) (L : LogLaws D) (E : DataSide) (EL : DataLaws E) (c : Setup) (m : SharedWords)
     (g : LogGhost) (h : PageGhost) (ls : ℕ → List Listed) (p : D.Part) (d : E.Part) (actors : List Actor) (seat : ℕ)

@@ -1,24 +1,18 @@
 -- The block that the archiver has read is the run's, and stays that while the log grows.
-use Rattle.std.proofs.Common.{Bool, List, [], None, ap, arith, cond, eqb, eqb-true, false, refl, set, subst, sym}
-use Rattle.std.proofs.Common.{true, ℕ, ⊎_elim, ◌++◌, ◌==◌, ◌∙◌, ◌∷◌, ◌≡◌}
+use Rattle.std.proofs.Common.{Bool, List, [], None, ap, arith, cond, eqb, eqb-true, false, refl, set, subst, sym, true, ℕ, ⊎_elim, ◌++◌, ◌==◌, ◌∙◌, ◌∷◌, ◌≡◌}
 use Rattle.std.proofs.lemmas.List.{append_assoc, append-nil}
 use lib.ListN.{get_elem?}
 use mathlib.Core.Option.{some}
 use Rattle.model_core.proofs.Lists.{at_set}
 use Rattle.model_core.proofs.Lsns.{floor_grows, lsn_offset}
-use Rattle.model_core.specs.{Actor, after_of, archives, Entry, floor, followed, has_all, lent, Listed}
-use Rattle.model_core.specs.{log_left, LogServed, lsn, next, next_block, old_of, read_to, reader_op, reader_program}
-use Rattle.model_core.specs.{reader_took, ReaderState, Room, shared_answer, SharedWords, to_append, took}
-use Rattle.model_core.specs.DataSide.{DataSide}
-use Rattle.model_core.specs.LogSide.{LogSide}
-use Rattle.model_core.specs.Setup.{Setup}
+use Rattle.model_core.specs.{Actor, after_of, archives, Entry, floor, followed, has_all, lent, Listed, log_left, LogServed, lsn, next, next_block, old_of, read_to, reader_op, reader_program, reader_took, ReaderState, Room, shared_answer, SharedWords, to_append, took, DataSide, LogSide, Setup}
 use Rattle.model_core.specs.declared.ops.Answer.{Answer}
 use Rattle.model_core.specs.declared.ops.Answer.TheVariants as answer
 use Rattle.model_core.specs.declared.ops.Op.TheVariants as op
 use Rattle.model_core.specs.declared.steps.ReaderStep.{ReaderStep}
 use Rattle.model_core.specs.declared.steps.ReaderStep.TheVariants as reader_step
 use Rattle.model_core.specs.declared.words.Word.TheVariants as word
-use Rattle.model_core.specs.Actors as actor
+use Rattle.model_core.specs.States as actor
 use Rattle.model_logcore.specs.{LogGhost}
 use Rattle.model_logcore.specs.LogLaws.{LogLaws}
 use Rattle.model_logcore.specs.LogFits as marks
@@ -27,9 +21,8 @@ use Rattle.model_pagecore.specs.DataLaws.{DataLaws}
 use Rattle.model_running.proofs.Archiving.{number_stays, reader_is, stays_other, took_reader}
 use Rattle.model_running.proofs.ReadKeeps.{can_read, LogGrows}
 use Rattle.model_running.proofs.ReadStays.{reserved, same_log, texts_of_log}
-use Rattle.model_running.specs.ReadHalf.{ArchiverAt, ArchiverHas, HasByKind, HasRunBlock, HaveRunBlocks, ReaderHas}
-use Rattle.model_running.specs.ReadHalf.{RunBlockAt}
-use Rattle.model_running.specs.RunningStore.{BothHalves}
+use Rattle.model_running.specs.ReadHalf.{ArchiverAt, ArchiverHas, HasByKind, HasRunBlock, HaveRunBlocks, ReaderHas, RunBlockAt}
+use Rattle.model_running.specs.Watermarks.{BothHalves}
 
 -- a reader's block is as it was, and the log may have grown
 module _ (D : LogSide) (c : Setup) (log log' : List Entry) (sn : ℕ) (grows : LogGrows log log' sn) where

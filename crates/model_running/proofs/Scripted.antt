@@ -1,5 +1,5 @@
 -- The lines of a script that fits the store change pages of the store, each once, and bytes of them.
-use Rattle.model_core.specs.{IsText}
+use Rattle.model_core.specs.{IsText, after_from, cell_where_same, changed_cells, change_on, changes_of, collected, CellWrite, change_at, IsScripted, Line, line_at, PageChange, Setup}
 use Rattle.std.proofs.Common.{Bool, List, Some, [], ap, append-nil, arith, cond, eq-eqb, eqb, false, get_or, inl, inr, length, length-append, refl, slice_get, subst, suc, sym, true, zero, ℕ, ⊎_elim, ◌++◌, ◌+◌, ◌-◌, ◌<◌, ◌∙◌, ◌∷◌, ◌≡◌, ◌≤◌, ◌⊎◌, ◌||◌}
 use Rattle.std.proofs.Math.ListN.{get_or-append}
 use Rattle.std.proofs.Math.Seq.{get_or-append_right}
@@ -10,8 +10,6 @@ use native.Mathlib.Decide.{dec_le, ℕ_discrete}
 use Rattle.model_base.proofs.ShapeLimits.{slots_within, whole_sectors}
 use Rattle.model_base.specs.{IsPageSize, IsWithinLimits, user_length}
 use Rattle.model_base.specs.declared.shape.Shape.{Shape}
-use Rattle.model_core.specs.{after_from, cell_where_same, changed_cells, change_on, changes_of, collected, CellWrite, change_at, IsScripted, Line, line_at, PageChange}
-use Rattle.model_core.specs.Setup.{Setup}
 use Rattle.model_running.proofs.Groups.{line_below}
 use Rattle.model_running.proofs.LineBytes.{changes_get_bytes, collected_each, GetsBytes, if_one}
 use Rattle.model_running.specs.Script.{IsOfScript}

@@ -3,13 +3,12 @@ use Rattle.std.proofs.Common.{Bool, List, [], ap, arith, false, length, map, sub
 use lib.ListN.{get_elem?}
 use Rattle.model_base.specs.declared.shape.Shape.{Shape}
 use Rattle.model_core.proofs.Lists.{at_longer}
-use Rattle.model_core.specs.{Actor, CleanerState, ReaderState, UserState}
-use Rattle.model_core.specs.Setup.{Setup}
+use Rattle.model_core.specs.{Actor, CleanerState, ReaderState, UserState, Setup}
 use Rattle.model_running.specs.Script.{HasSeats, IsOfScript}
 use Rattle.model_running.specs.Seated.{AreSeated}
-use Rattle.model_running.specs.Seating.{ArePageActors}
+use Rattle.model_running.specs.Schedule.{ArePageActors}
 use Rattle.model_script.specs.declared.script.ScriptLine.{ScriptLine}
-use Rattle.model_core.specs.Actors as actor
+use Rattle.model_core.specs.States as actor
 use mathlib.Core.Option as maybe
 
 user_at : (users : List UserState) (i : ℕ) (u : UserState) → get_elem? users i ≡ maybe.some u → get_elem? (map actor.User users) i ≡ maybe.some (actor.User u)

@@ -1,53 +1,49 @@
 -- Each turn leaves each actor in its seat.
-use Rattle.model_core.specs.{ReaderState}
-use Rattle.model_core.specs.{filled, Filling}
+use Rattle.model_core.specs.{ReaderState, filled, Filling, Actor, Core, FlusherState, took, UserState, WriterState, DataSide, LogSide, IsSameActor, Setup}
 use Rattle.model_core.specs.ReaderProgram.{reader_filled}
 use Rattle.std.proofs.Common.{Bool, List, [], ap, arith, false, inl, inr, length, map, refl, set, subst, suc, sym, true, zero, ℕ, ⊎_elim, ◌++◌, ◌<◌, ◌∙◌, ◌∷◌, ◌≡◌, ◌⊎◌}
 use lib.ListN.{get_elem?}
 use Rattle.model_core.proofs.Later.{later_refl, later_trans, took_later}
-use Rattle.model_core.specs.{Actor, Core, FlusherState, took, UserState, WriterState}
-use Rattle.model_core.specs.DataSide.{DataSide}
-use Rattle.model_core.specs.Later.{IsSameActor}
-use Rattle.model_core.specs.LogSide.{LogSide}
-use Rattle.model_core.specs.Setup.{Setup}
-use Rattle.model_core.specs.Turn.{Turn}
+use Rattle.model_core.specs.Program.{Turn}
 use Rattle.model_core.specs.declared.ops.Answer.{Answer}
 use Rattle.model_core.specs.declared.ops.Step.{Step}
 use Rattle.model_running.proofs.Seated.{user_seat}
 use Rattle.model_running.specs.Seated.{AreSeated}
-use Rattle.model_running.specs.Seating.{ArePageActors, PageActors}
-use Rattle.model_core.specs.Actors as actor
+use Rattle.model_running.specs.Schedule.{ArePageActors, PageActors}
+use Rattle.model_core.specs.States as actor
 use mathlib.Core.Option as maybe
 
--- users of the same numbers
+-- users of the same numbers, each of which keeps all its lines if it did so
 abbrev SameUsers : List UserState → List UserState → Type 0
 SameUsers [] [] = Unit {0}
-SameUsers (x ∷ xs) (y ∷ ys) = (y.user ≡ x.user) × SameUsers xs ys
+SameUsers (x ∷ xs) (y ∷ ys) = (y.user ≡ x.user) × (y.keeps ≡ x.keeps) × SameUsers xs ys
 SameUsers _ _ = ⊥
 
 users_refl : (us : List UserState) → SameUsers us us
 users_refl [] = tt
-users_refl (x ∷ xs) = (refl, users_refl xs)
+users_refl (x ∷ xs) = (refl, refl, users_refl xs)
 
 users_length : (us vs : List UserState) → SameUsers us vs → length us ≡ length vs
 users_length [] [] same = refl
 users_length [] (y ∷ ys) same = absurd same
 users_length (x ∷ xs) [] same = absurd same
-users_length (x ∷ xs) (y ∷ ys) same = let r = users_length xs ys same.1 in omega arith
+users_length (x ∷ xs) (y ∷ ys) same = let r = users_length xs ys same.2 in omega arith
 
-users_back : (us vs : List UserState) (i : ℕ) (v : UserState) → SameUsers us vs → get_elem? vs i ≡ maybe.some v → (u : UserState) × (get_elem? us i ≡ maybe.some u) × (v.user ≡ u.user)
+users_back : (us vs : List UserState) (i : ℕ) (v : UserState) → SameUsers us vs → get_elem? vs i ≡ maybe.some v
+    → (u : UserState) × (get_elem? us i ≡ maybe.some u) × (v.user ≡ u.user) × (v.keeps ≡ u.keeps)
 users_back [] [] i v same at = absurd (maybe.some-ne-none v (sym at))
 users_back [] (y ∷ ys) i v same at = absurd same
 users_back (x ∷ xs) [] i v same at = absurd same
-users_back (x ∷ xs) (y ∷ ys) zero v same at = (x, refl, sym (ap (λ (z : UserState). z.user) (maybe.some-injective y v at)) ∙ same.0)
-users_back (x ∷ xs) (y ∷ ys) (suc i) v same at = users_back xs ys i v same.1 at
+users_back (x ∷ xs) (y ∷ ys) zero v same at = let is = sym (maybe.some-injective y v at) in
+    (x, refl, ap (λ (z : UserState). z.user) is ∙ same.0, ap (λ (z : UserState). z.keeps) is ∙ same.1)
+users_back (x ∷ xs) (y ∷ ys) (suc i) v same at = users_back xs ys i v same.2 at
 
 users_forth : (us vs : List UserState) (i : ℕ) (u : UserState) → SameUsers us vs → get_elem? us i ≡ maybe.some u → (v : UserState) × (get_elem? vs i ≡ maybe.some v) × (v.user ≡ u.user)
 users_forth [] [] i u same at = absurd (maybe.some-ne-none u (sym at))
 users_forth [] (y ∷ ys) i u same at = absurd same
 users_forth (x ∷ xs) [] i u same at = absurd same
 users_forth (x ∷ xs) (y ∷ ys) zero u same at = (y, refl, same.0 ∙ ap (λ (z : UserState). z.user) (maybe.some-injective x u at))
-users_forth (x ∷ xs) (y ∷ ys) (suc i) u same at = users_forth xs ys i u same.1 at
+users_forth (x ∷ xs) (y ∷ ys) (suc i) u same at = users_forth xs ys i u same.2 at
 
 -- one user among them later, of the same number
 set_users : (users : List UserState) (rest : List Actor) (seat : ℕ) (u v : UserState) → get_elem? users seat ≡ maybe.some u
@@ -57,11 +53,11 @@ set_users (x ∷ xs) rest zero u v at = refl
 set_users (x ∷ xs) rest (suc i) u v at = ap (λ (l : List Actor). actor.User x ∷ l) (set_users xs rest i u v at)
 
 same_set : (users : List UserState) (seat : ℕ) (u v : UserState) → get_elem? users seat ≡ maybe.some u
-    → v.user ≡ u.user → SameUsers users (set users seat v)
-same_set [] seat u v at own = absurd (maybe.some-ne-none u (sym at))
-same_set (x ∷ xs) zero u v at own =
-    (own ∙ sym (ap (λ (z : UserState). z.user) (maybe.some-injective x u at)), users_refl xs)
-same_set (x ∷ xs) (suc i) u v at own = (refl, same_set xs i u v at own)
+    → v.user ≡ u.user → v.keeps ≡ u.keeps → SameUsers users (set users seat v)
+same_set [] seat u v at own keeps = absurd (maybe.some-ne-none u (sym at))
+same_set (x ∷ xs) zero u v at own keeps = let is = sym (maybe.some-injective x u at) in
+    (own ∙ ap (λ (z : UserState). z.user) is, keeps ∙ ap (λ (z : UserState). z.keeps) is, users_refl xs)
+same_set (x ∷ xs) (suc i) u v at own keeps = (refl, refl, same_set xs i u v at own keeps)
 
 -- a seat among the users, or after them
 pub record AtUser (users : List UserState) (rest : List Actor) (seat : ℕ) (b : Actor) : Type 0 where
@@ -75,13 +71,13 @@ pub record AtOther (users : List UserState) (rest : List Actor) (seat : ℕ) (a 
   pub are : ◌≡◌ {A = List Actor} (set (map actor.User users ++ rest) seat b) (map actor.User users ++ set rest place b)
 
 user_there : (x : UserState) (xs : List UserState) (rest : List Actor) (b : Actor) → IsSameActor (actor.User x) b → AtUser (x ∷ xs) rest 0 b
-user_there x xs rest b later = subst (AtUser (x ∷ xs) rest 0) (sym later.1) (record { after = later.0 ∷ xs; are = refl; same = (later.2, users_refl xs) })
+user_there x xs rest b later = subst (AtUser (x ∷ xs) rest 0) (sym later.1) (record { after = later.0 ∷ xs; are = refl; same = (later.2, later.7, users_refl xs) })
 
 seat_in : (users : List UserState) (rest : List Actor) (seat : ℕ) (a b : Actor) → get_elem? (map actor.User users ++ rest) seat ≡ maybe.some a → IsSameActor a b → AtUser users rest seat b ⊎ AtOther users rest seat a b
 seat_in [] rest seat a b at same = inr (record { place = seat; at = at; are = refl })
 seat_in (x ∷ xs) rest zero a b at same = inl (user_there x xs rest b (subst (λ (z : Actor). IsSameActor z b) (sym (maybe.some-injective (actor.User x) a at)) same))
 seat_in (x ∷ xs) rest (suc seat) a b at same = ⊎_elim
-    (λ z. inl (record { after = x ∷ z.after; are = ap (λ (l : List Actor). actor.User x ∷ l) z.are; same = (refl, z.same) }))
+    (λ z. inl (record { after = x ∷ z.after; are = ap (λ (l : List Actor). actor.User x ∷ l) z.are; same = (refl, refl, z.same) }))
     (λ z. inr (record { place = z.place; at = z.at; are = ap (λ (l : List Actor). actor.User x ∷ l) z.are }))
     (seat_in xs rest seat a b at same)
 
@@ -129,20 +125,21 @@ module _ {live : Bool} (c : Setup) (actors : List Actor) (seated : AreSeated liv
         let l = seated.ascending i a.0 b.0 a.1 b.1 in let a2 = a.2 in let b2 = b.2 in omega arith;
     have_lines = λ fixed i u at. let a = users_back seated.users after i u same at in
         subst (λ (k : ℕ). 0 < length (c.script k)) (sym a.2) (seated.have_lines fixed i a.0 a.1);
+    keep = λ fixed i u at. let a = users_back seated.users after i u same at in a.3 ∙ seated.keep fixed i a.0 a.1;
     all = λ user lines. let r = seated.all user lines in let v = users_forth seated.users after r.0 r.1 same r.2 in (r.0, v.0, v.1, v.2 ∙ r.3);
     closer = (let z = seated.closer in omega arith);
     cleaner = (let z = seated.cleaner in omega arith);
     checkpointer = (let z = seated.checkpointer in omega arith);
   }
 
-  -- a user may become another one of its number
+  -- a user may become another one of its number, that keeps all its lines if it did so
   pub user_keeps : (seat : ℕ) (u v : UserState) → get_elem? actors seat ≡ maybe.some (actor.User u) → v.user ≡ u.user
-      → AreSeated live c (set actors seat (actor.User v))
-  user_keeps seat u v at own =
+      → v.keeps ≡ u.keeps → AreSeated live c (set actors seat (actor.User v))
+  user_keeps seat u v at own keeps =
       let here = user_seat c actors seated seat u at in
       let rest : List Actor = actor.Writer seated.writer ∷ actor.Flusher seated.flusher ∷ seated.others in
       with_users (set seated.users seat v) seated.writer seated.flusher seated.others (set actors seat (actor.User v))
-      (same_set seated.users seat u v here own)
+      (same_set seated.users seat u v here own keeps)
       (ap (λ (l : List Actor). set l seat (actor.User v)) seated.are ∙ set_users seated.users rest seat u v here)
       seated.page_actors
 

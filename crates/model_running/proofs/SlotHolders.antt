@@ -3,14 +3,8 @@ use Rattle.std.proofs.Common.{List, None, Option, Some, ap, arith, refl, subst, 
 use Rattle.std.specs.Prelude.{slice_index}
 use lib.ListN.{get_elem?}
 use mathlib.Core.Option.{some}
-use Rattle.model_core.specs.{checkpointer_holds, CheckpointerState, CleanerState, Core, current_page, first_of_batch, flat, flusher_holds, layout_of, SharedWords, UserState, writer_holds}
-use Rattle.model_core.specs.{reader_holds}
-use Rattle.model_core.specs.Actors as model
-use Rattle.model_core.specs.DataSide.{DataSide}
-use Rattle.model_core.specs.Hands.{checkpointer_hand, cleaner_hand, flusher_hand, hand, user_hand, writer_hand}
-use Rattle.model_core.specs.Hands.{reader_hand}
-use Rattle.model_core.specs.LogSide.{LogSide}
-use Rattle.model_core.specs.Setup.{Setup}
+use Rattle.model_core.specs.{checkpointer_holds, CheckpointerState, CleanerState, Core, current_page, first_of_batch, flat, flusher_holds, layout_of, SharedWords, UserState, writer_holds, reader_holds, DataSide, LogSide, checkpointer_hand, cleaner_hand, flusher_hand, hand, user_hand, writer_hand, reader_hand, Setup}
+use Rattle.model_core.specs.States as model
 use Rattle.model_core.specs.declared.steps.CheckpointerStep.{CheckpointerStep}
 use Rattle.model_core.specs.declared.steps.CheckpointerStep.TheVariants as checkpointer_step
 use Rattle.model_core.specs.declared.steps.CleanerStep.{CleanerStep}
@@ -28,7 +22,7 @@ use Rattle.model_logcore.specs.{LogGhost}
 use Rattle.model_pagecore.specs.{CheckpointerPageFits, CheckpointerPagesAt, CleanerAt, CleanerFits, PageGhost, UserPageFits, UserPagesAt}
 use Rattle.model_pagecore.specs.PageHalf.{HasList}
 use Rattle.model_running.proofs.FlatWords.{flat_read}
-use Rattle.model_running.specs.RunningStore.{IsRunning}
+use Rattle.model_running.specs.Watermarks.{IsRunning}
 
 abbrev number_in : Option ℕ → ℕ
 number_in None = 0

@@ -5,21 +5,16 @@ use Rattle.std.proofs.Common.{List, [], ap, arith, false, get_or, length, refl, 
 use lib.ListN.{get_elem?}
 use mathlib.Core.Option.{some, some-ne-none}
 use Rattle.model_base.specs.declared.limits.TheConstants.{LSN_LIMIT}
-use Rattle.model_core.specs.{Actor, change_at, CheckpointerState, CleanerState, CloserState, flat, layout_of, Line, line_at, LoadedMarks, lsn, PageWords, ReaderState, SharedWords}
-use Rattle.model_core.specs.DataSide.{DataSide}
-use Rattle.model_core.specs.LogSide.{LogSide}
-use Rattle.model_core.specs.Setup.{Setup}
+use Rattle.model_core.specs.{Actor, change_at, CheckpointerState, CleanerState, CloserState, flat, layout_of, Line, line_at, LoadedMarks, lsn, PageWords, ReaderState, SharedWords, DataSide, LogSide, Setup, start_checkpoint}
 use Rattle.model_logcore.proofs.DeviceSteps.{alone}
 use Rattle.model_logcore.proofs.NewUsers.{new_step, new_user_is}
 use Rattle.model_logcore.proofs.StartHolds.{half_starts, start}
 use Rattle.model_logcore.specs.{checkpointer_start, cleaner_start, closer_start, left_to_reserve, StartActor, sum_over_actors}
-use Rattle.model_core.specs.StartWords.{start_checkpoint}
 use Rattle.model_pagecore.proofs.PageStart.{pages_start}
 use Rattle.model_pagecore.specs.{CheckpointerPageFits, CleanerFits, CloserFits, PageFits, PageGhost, UserPagesAt, UserClosingAt}
-use Rattle.model_running.specs.RunningStore.{BothHalves, RunningStore}
+use Rattle.model_running.specs.Watermarks.{BothHalves, RunningStore, HandIsClosed}
 use Rattle.model_running.specs.StartStore.{StartStore}
-use Rattle.model_running.specs.UsersClosed.{HandIsClosed}
-use Rattle.model_core.specs.Actors as actor
+use Rattle.model_core.specs.States as actor
 
 abbrev pub start_pages : Setup → PageGhost
 start_pages c = record {

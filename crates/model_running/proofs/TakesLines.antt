@@ -6,11 +6,7 @@ use native.Mathlib.Decide.{ℕ_discrete}
 use Rattle.model_base.specs.declared.limits.TheConstants.{LSN_LIMIT}
 use Rattle.model_core.proofs.Groups.{changed, changed_else, changed_here}
 use Rattle.model_core.proofs.Lists.{at_set, set_at, set_else}
-use Rattle.model_core.specs.{Actor, archives, change_at, Entry, HasHolder, HasLost, holds_tail, IsScripted, IsText, Line, line_at, Listed, PageChange, lsn, ReaderState, SharedWords, UserState}
-use Rattle.model_core.specs.Holding.{user_holds_tail}
-use Rattle.model_core.specs.DataSide.{DataSide}
-use Rattle.model_core.specs.LogSide.{LogSide}
-use Rattle.model_core.specs.Setup.{Setup}
+use Rattle.model_core.specs.{Actor, archives, change_at, Entry, HasHolder, HasLost, holds_tail, IsScripted, IsText, Line, line_at, Listed, PageChange, lsn, ReaderState, SharedWords, UserState, user_holds_tail, DataSide, LogSide, Setup}
 use Rattle.model_core.specs.declared.steps.ReaderStep.{ReaderStep}
 use Rattle.model_core.specs.declared.steps.ReaderStep.TheVariants as reader_step
 use Rattle.model_core.specs.declared.steps.UserStep.{UserStep}
@@ -25,11 +21,9 @@ use Rattle.model_running.proofs.Seated.{user_seat}
 use Rattle.model_running.proofs.SeatsKeep.{user_keeps}
 use Rattle.model_running.specs.Bounds.{HasBytes}
 use Rattle.model_running.specs.ReadHalf.{ArchiverHas, FollowerAt, FollowerHas, HasByKind, HasMore, HasRunBlock, HaveRunBlocks, IsFlushedTo, ReadFits, ReadHalf, RunBlockAt, StaysInRun}
-use Rattle.model_running.specs.RunningStore.{BothHalves}
+use Rattle.model_running.specs.Watermarks.{BothHalves, UserClosed, UsersClosed, LatchesAreHeld}
 use Rattle.model_running.specs.Seated.{AreSeated}
-use Rattle.model_running.specs.UsersClosed.{UserClosed, UsersClosed}
-use Rattle.model_running.specs.LatchesHeld.{LatchesAreHeld}
-use Rattle.model_core.specs.Actors as actor
+use Rattle.model_core.specs.States as actor
 use mathlib.Core.Option as maybe
 
 abbrev user_or : UserState → Actor → UserState
@@ -300,7 +294,7 @@ pub seats_take_lines : {live : Bool} (c : Setup) (actors : List Actor) → live 
     (more : List Line) → get_elem? actors seat ≡ maybe.some (actor.User u)
     → AreSeated live (logged.grown c u.user more) (set actors seat (actor.User (logged.taking u more)))
 seats_take_lines c actors is seated seat u more at =
-    let same = user_keeps c actors seated seat u (logged.taking u more) at refl in
+    let same = user_keeps c actors seated seat u (logged.taking u more) at refl refl in
     let here = user_seat c (set actors seat (actor.User (logged.taking u more))) same seat (logged.taking u more)
     (set_at actors seat (actor.User u) (actor.User (logged.taking u more)) at) in
     record {
@@ -312,6 +306,7 @@ seats_take_lines c actors is seated seat u more at =
       page_actors = same.page_actors;
       ascending = same.ascending;
       have_lines = λ fixed. let z : true ≡ false = sym is ∙ fixed in absurd (cc);
+      keep = same.keep;
       all = λ user some. elim (ℕ_discrete user u.user) [
         | yes own ↦ (seat, logged.taking u more, here, sym own)
         | no other ↦ same.all user

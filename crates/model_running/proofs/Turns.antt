@@ -6,12 +6,8 @@ use Rattle.std.proofs.Common.{Bool, List, [], ap, arith, cond, eqb, false, get_o
 use Rattle.std.specs.Prelude.{slice_index}
 use lib.ListN.{get_elem?}
 use mathlib.Core.Option.{some}
-use Rattle.model_core.specs.{Actor, answer_of, BatchPage, checkpointer_op, CheckpointerState, cleaner_op, CleanerState, closer_op, CloserState, DataServed, Entry, first_of_batch, flat, frame_words, flusher_op, FlusherState, IsWord, layout_of, lent, Listed, lists_left, log_left, LogServed, mode, next, no_page, OpWords, OwnServed, shared_answer, shared_left, SharedWords, took, user_op, UserState, words_left, writer_op, WriterState, Advance, advance_op}
-use Rattle.model_core.specs.{reader_op, ReaderState}
+use Rattle.model_core.specs.{Actor, answer_of, BatchPage, checkpointer_op, CheckpointerState, cleaner_op, CleanerState, closer_op, CloserState, DataServed, Entry, first_of_batch, flat, frame_words, flusher_op, FlusherState, IsWord, layout_of, lent, Listed, lists_left, log_left, LogServed, mode, next, no_page, OpWords, OwnServed, shared_answer, shared_left, SharedWords, took, user_op, UserState, words_left, writer_op, WriterState, Advance, advance_op, reader_op, ReaderState, DataSide, LogSide, Setup}
 use Rattle.model_core.proofs.PageSizes.{frame_fills}
-use Rattle.model_core.specs.DataSide.{DataSide}
-use Rattle.model_core.specs.LogSide.{LogSide}
-use Rattle.model_core.specs.Setup.{Setup}
 use Rattle.model_core.specs.declared.ops.Answer.{Answer}
 use Rattle.model_core.specs.declared.ops.Op.{Op}
 use Rattle.model_core.specs.declared.steps.CleanerStep.{CleanerStep}
@@ -27,7 +23,7 @@ use Rattle.model_pagecore.specs.DataLaws.{DataLaws}
 use Rattle.model_pagecore.specs.{CheckpointerPageFits, CheckpointerPagesAt, CleanerAt, CleanerFits, InWordOnly, ListingStage, PageGhost, Unlisted, Unlisting, UserPageFits, UserPagesAt}
 use Rattle.model_running.proofs.FlatWords.{flat_answer, flat_left}
 use Rattle.model_running.proofs.BothKeep.{keeps_both}
-use Rattle.model_running.specs.RunningStore.{BothHalves, RunningStore}
+use Rattle.model_running.specs.Watermarks.{BothHalves, RunningStore}
 use Rattle.model_core.specs.declared.steps.UserStep.TheVariants as user_step
 use Rattle.model_core.specs.declared.steps.CloserStep.TheVariants as closer_step
 use Rattle.model_core.specs.declared.steps.CleanerStep.TheVariants as cleaner_step
@@ -37,7 +33,7 @@ use Rattle.model_core.specs.declared.words.Layout.{Layout}
 use Rattle.model_core.specs.declared.words.LinkBuffer.TheVariants as link_buffer
 use Rattle.model_core.specs.declared.words.LinkBuffer.{LinkBuffer}
 use Rattle.model_core.specs.declared.steps.AdvanceStep.{AdvanceStep}
-use Rattle.model_core.specs.Actors as actor
+use Rattle.model_core.specs.States as actor
 use Rattle.model_core.specs.declared.words.Word.TheVariants as word
 use Rattle.model_core.specs.declared.ops.Op.TheVariants as op
 use Rattle.model_core.specs.declared.steps.WriterStep.TheVariants as writer_step

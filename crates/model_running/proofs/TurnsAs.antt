@@ -1,14 +1,10 @@
 -- Turns of one store are turns of another that tells less of them, or more where something holds all along.
 use Rattle.std.proofs.Common.{List, add-one, ap, refl, subst, suc, sym, zero, ℕ, ◌+◌, ◌∙◌, ◌≡◌}
 use lib.ListN.{get_elem?}
-use Rattle.model_core.specs.{Actor, Core}
-use Rattle.model_core.specs.DataSide.{DataSide}
-use Rattle.model_core.specs.LogSide.{LogSide}
+use Rattle.model_core.specs.{Actor, Core, DataSide, LogSide}
 use Rattle.model_core.specs.declared.ops.Step.{Step}
-use Rattle.model_running.specs.ActorStore.{actor_store}
+use Rattle.model_running.specs.Schedule.{actor_store, HaveEnded, IsDone, IsSpent, LastTurn, TakesTurns, TurnStore, seat_of_turn}
 use Rattle.model_running.specs.PlainStore.{plain_store}
-use Rattle.model_running.specs.Schedule.{HaveEnded, IsDone, IsSpent, LastTurn, TakesTurns, TurnStore}
-use Rattle.model_running.specs.Schedule.{seat_of_turn}
 
 module _ {D F : LogSide} {E G : DataSide} (S : TurnStore D E) (T : TurnStore F G) (of : S.State → T.State)
     (Holds : S.State → Type 0) (seats : (s : S.State) → T.seats (of s) ≡ S.seats s)

@@ -3,13 +3,12 @@ use Rattle.std.proofs.Common.{Bool, List, arith, cond, eqb, eqb-true, false, len
 use lib.ListN.{get_elem?}
 use mathlib.Core.Option.{some}
 use native.Mathlib.Decide.{ℕ_discrete}
-use Rattle.model_core.specs.{advance_next, after_link, answered, can_close, can_link, cells_of, change_at, changes, checked_of, entry, Entry, frame_count, frees, group_bytes, group_end, has_passed, has_room, has_space, is_whole, line, LoadedMarks, mode, next_count, stays_put, tail_of, to_next_page, user_program, user_took, UserState, with_close_room, with_link_room, with_mark, without_close_room, without_link_room, word_step}
-use Rattle.model_core.specs.Setup.{Setup}
+use Rattle.model_core.specs.{advance_next, after_link, answered, can_close, can_link, cells_of, change_at, changes, checked_of, entry, Entry, frame_count, frees, group_bytes, group_end, has_passed, has_room, has_space, is_whole, line, LoadedMarks, mode, next_count, stays_put, tail_of, to_next_page, user_program, user_took, UserState, with_close_room, with_link_room, with_mark, without_close_room, without_link_room, word_step, Setup}
 use Rattle.model_core.specs.declared.steps.UserStep.{UserStep}
 use Rattle.model_log.specs.declared.layout.TheConstants.{BLOCK_DATA}
 use Rattle.model_logcore.proofs.UserGroups.{rank_same}
 use Rattle.model_logcore.specs.{Place, Tiled}
-use Rattle.model_running.specs.UsersClosed.{HandIsClosed, UserClosed}
+use Rattle.model_running.specs.Watermarks.{HandIsClosed, UserClosed}
 use Rattle.model_core.specs.declared.steps.AdvanceStep.TheVariants as advance_step
 use Rattle.model_core.specs.declared.steps.UserStep.TheVariants as user_step
 

@@ -5,10 +5,7 @@ use Rattle.std.specs.Prelude.{None, nat_le, slice_index, slice_set}
 use lib.ListN.{get_elem?}
 use mathlib.Core.Option.{some}
 unfoldable use Rattle.model_core.specs.{packed}
-use Rattle.model_core.specs.{Actor, after_link, answered, cell_of, changes, copy_place, lane_of, next_bytes, next_count, checked, DataServed, Entry, floor, found, group_bytes, group_end, heard, appended, Listed, lists_left, LogServed, lsn, mode, Nothing, old_of, own_took, current_page, page_words_at, phase_log, shared_answer, shared_left, SharedWords, user_op, user_took, UserState, with_mark, with_page_words, advance_next, advance_op, advance_took, after, can_link, frees, stays_put, tail_of, tail_word, with_link_room, without_link_room, wrote}
-use Rattle.model_core.specs.DataSide.{DataSide}
-use Rattle.model_core.specs.LogSide.{LogSide}
-use Rattle.model_core.specs.Setup.{Setup}
+use Rattle.model_core.specs.{Actor, after_link, answered, cell_of, changes, copy_place, lane_of, next_bytes, next_count, checked, DataServed, Entry, floor, found, group_bytes, group_end, heard, appended, Listed, lists_left, LogServed, lsn, mode, Nothing, old_of, own_took, current_page, page_words_at, phase_log, shared_answer, shared_left, SharedWords, user_op, user_took, UserState, with_mark, with_page_words, advance_next, advance_op, advance_took, after, can_link, frees, stays_put, tail_of, tail_word, with_link_room, without_link_room, wrote, DataSide, LogSide, Setup}
 use Rattle.model_core.specs.declared.steps.UserStep.{UserStep}
 use Rattle.model_logcore.specs.{LogGhost, UserAt, UserFits}
 use Rattle.model_pagecore.proofs.ClosingSteps.{keeps_close}
@@ -20,14 +17,14 @@ use Rattle.model_pagecore.proofs.UserRoomSteps.{keeps_advance_closed, keeps_load
 use Rattle.model_pagecore.proofs.ReserveSteps.{keeps_page_reserve}
 use Rattle.model_pagecore.specs.{Grows, HasUntouchedPages, PageGhost, UserPageFits, UserPagesAt, UserClosingAt}
 use Rattle.model_pagecore.specs.PageHalf.{PageHalf}
-use Rattle.model_running.specs.RunningStore.{BothHalves}
+use Rattle.model_running.specs.Watermarks.{BothHalves}
 use Rattle.model_core.specs.declared.ops.Answer.TheVariants as answer
 use Rattle.model_core.specs.declared.steps.UserStep.TheVariants as user_step
 use Rattle.model_core.specs.declared.steps.AdvanceStep.TheVariants as advance_step
 use Rattle.model_core.specs.declared.words.LinkBuffer.TheVariants as link_buffer
 use Rattle.model_core.specs.declared.words.LinkBuffer.{LinkBuffer}
 use Rattle.model_core.specs.declared.steps.AdvanceStep.{AdvanceStep}
-use Rattle.model_core.specs.Actors as actor
+use Rattle.model_core.specs.States as actor
 use Rattle.model_core.specs.declared.words.Word.TheVariants as word
 use Rattle.model_core.specs.declared.ops.Op.TheVariants as op
 use Rattle.model_core.specs.declared.limits.TheConstants.{BUFFER_BLOCKS, FREE_MARGIN, LOG_BUFFER, WRITTEN_LINKS}

@@ -2,10 +2,7 @@
 use Rattle.std.proofs.Common.{List, arith, refl, subst, sym, ℕ, ⊎_elim, ◌<◌, ◌≡◌, ◌⊎◌, Bool, false, true, ◌∙◌}
 use lib.ListN.{get_elem?}
 use mathlib.Core.Option.{some}
-use Rattle.model_core.specs.{Actor, CheckpointerState, CleanerState, CloserState, Core, Entry, Listed, SharedWords, UserState, Advance, advance_holds, advance_of, holds_tail}
-use Rattle.model_core.specs.DataSide.{DataSide}
-use Rattle.model_core.specs.LogSide.{LogSide}
-use Rattle.model_core.specs.Setup.{Setup}
+use Rattle.model_core.specs.{Actor, CheckpointerState, CleanerState, CloserState, Core, Entry, Listed, SharedWords, UserState, Advance, advance_holds, advance_of, holds_tail, DataSide, LogSide, Setup, closer_holds_tail, user_holds_tail}
 use Rattle.model_core.specs.declared.steps.CleanerStep.{CleanerStep}
 use Rattle.model_core.specs.declared.steps.UserStep.{UserStep}
 use Rattle.model_logcore.proofs.Watermarks.{log_watermarks, watermarks_log}
@@ -15,15 +12,13 @@ use Rattle.model_pagecore.specs.DataLaws.{DataLaws}
 use Rattle.model_pagecore.specs.{CheckpointerPageFits, CleanerAt, CleanerFits, CleanerHasLatch, CloserFits, HoldsOnly, PageGhost, Passed, UserHasLatch, UserPageFits, UserPagesAt, CloserAt, ClosingAt, HoldsCtail, UserClosingAt}
 use Rattle.model_running.proofs.Archiving.{lost_code}
 use Rattle.model_running.proofs.LatchesKeep.{held_by}
-use Rattle.model_running.specs.RunningStore.{BothHalves, IsRunning}
-use Rattle.model_running.specs.Watermarks.{CleanerTells, ClosedChangesAreListedOrKept, FailureHasCause, FramesAreApplied, HasWatermarks, KeptPagesArePrefixes, ListsAreRelaxed, UserTells, Watermarks}
+use Rattle.model_running.specs.Watermarks.{BothHalves, IsRunning, CleanerTells, ClosedChangesAreListedOrKept, FailureHasCause, FramesAreApplied, HasWatermarks, KeptPagesArePrefixes, ListsAreRelaxed, UserTells, Watermarks}
 use Rattle.model_core.specs.declared.steps.AdvanceStep.TheVariants as advance_step
 use Rattle.model_core.specs.declared.words.LinkBuffer.TheVariants as link_buffer
 use Rattle.model_core.specs.declared.steps.CloserStep.TheVariants as closer_step
 use Rattle.model_core.specs.declared.steps.CloserStep.{CloserStep}
 use Rattle.model_core.specs.declared.steps.AdvanceStep.{AdvanceStep}
-use Rattle.model_core.specs.Holding.{closer_holds_tail, user_holds_tail}
-use Rattle.model_core.specs.Actors as actor
+use Rattle.model_core.specs.States as actor
 use Rattle.model_core.specs.declared.steps.CleanerStep.TheVariants as cleaner_step
 use Rattle.model_core.specs.declared.steps.UserStep.TheVariants as user_step
 

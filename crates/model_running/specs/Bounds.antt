@@ -1,9 +1,6 @@
 -- What bounds the numbers of a run: pages and changed cells hold bytes, and codes have 32 bits.
 use Rattle.std.specs.Prelude.{get_or, slice_index, ℕ, ◌<◌, ◌^◌}
-use Rattle.model_core.specs.DataSide.{DataSide}
-use Rattle.model_core.specs.LogSide.{LogSide}
-use Rattle.model_core.specs.Setup.{Setup}
-use Rattle.model_core.specs.{change_at, line_at}
+use Rattle.model_core.specs.{DataSide, LogSide, Setup, change_at, line_at}
 
 pub record HasBytes (c : Setup) : Type 0 where
   pub opened : (p i : ℕ) → slice_index (c.opened p).bytes i < 256

@@ -1,21 +1,27 @@
 -- What a running store stands for at any moment.
-use Rattle.std.specs.Prelude.{List, ℕ, ◌<◌, ◌≡◌, ◌≤◌, ◌⊎◌, slice_index}
+-- What a running store keeps of its pages, in the words of a closed run.
+-- What the parts of a running store hold, their devices hold.
+use Rattle.std.specs.Prelude.{List, ℕ, ◌<◌, ◌≡◌, ◌≤◌, ◌⊎◌, slice_index, Option, Some, slice_get}
 use lib.ListN.{get_elem?}
 use mathlib.Core.Option.{some}
 use Rattle.model_base.specs.declared.limits.TheConstants.{LSN_LIMIT}
-use Rattle.model_core.specs.DataSide.{DataSide}
-use Rattle.model_core.specs.{Actor, Core, Entry, HasLost, sn_at, Tiles, UserState}
-use Rattle.model_core.specs.LogSide.{LogSide}
-use Rattle.model_core.specs.Setup.{Setup}
+use Rattle.model_core.specs.{DataSide, LogSide, Actor, Core, Entry, HasLost, sn_at, Tiles, UserState, BatchPage, KeptPage, lsn, Setup}
 use Rattle.model_running.specs.History.{marks_in}
-use Rattle.model_running.specs.Histories.{AreWholesOf}
-use Rattle.model_running.specs.Histories.{history_of}
+use Rattle.model_running.specs.Histories.{AreWholesOf, history_of}
 use Rattle.model_report.specs.{wholes_of}
 use Rattle.model_report.specs.declared.entry.Marks.{Marks}
 use Rattle.model_logcore.specs.{Counted}
 use Rattle.model_script.specs.declared.script.ScriptLine.{ScriptLine}
-use Rattle.model_theorem.specs.{IsRun, Opened, Ran}
-use Rattle.model_core.specs.Actors as actor
+use Rattle.model_theorem.specs.{IsRun, Opened, Ran, IsBatchPrefix, IsKeptPrefix, DataHolds}
+use Rattle.model_core.specs.States as actor
+use Rattle.model_running.specs.OpenedPages.{content_in, contents_of}
+use Rattle.model_page.specs.declared.content.Content.{Content}
+use Rattle.model_pagecore.specs.{AreApart}
+use Rattle.model_log.specs.declared.group.Whole.{Whole}
+use Rattle.model_base.specs.declared.shape.Shape.{Shape}
+use Rattle.model_device.specs.{Disk}
+use Rattle.model_parts.specs.{LogHolds}
+use Rattle.model_parts.specs.declared.marks.LogMarks.{LogMarks}
 
 -- a cause means that a call failed, of which so many did
 pub record CausesAreFailures (D : LogSide) (E : DataSide) (failures : ℕ) (p : D.Part) (d : E.Part) (actors : List Actor) : Type 0 where
@@ -46,3 +52,34 @@ pub record StandsForRun (D : LogSide) (E : DataSide) (c : Setup) (script : List 
 -- a call of a part has failed, or an append
 abbrev pub HasFailedPart : (D : LogSide) (E : DataSide) → D.Part → E.Part → List Actor → Type 0
 HasFailedPart D E p d actors = (code : ℕ) × (D.Cause p code ⊎ E.Cause d code ⊎ HasLost actors code)
+
+-- Each page as it was last written is a prefix of the run that lacks no group that starts below the checkpoint; and what the
+-- batch at hand has for it, if it has it, is a prefix too, and no older.
+pub record ArePrefixes (opened : List Content) (wholes : List Whole) (stable ckpt : ℕ) (was : ℕ → Content) (batch : ℕ → Option Content) : Type 0 where
+  pub last : (p : ℕ) (page : Content) → slice_get opened p ≡ Some page → IsKeptPrefix page wholes stable ckpt p (was p)
+  pub next : (p : ℕ) (page : Content) → slice_get opened p ≡ Some page → IsBatchPrefix page wholes stable p (was p) (batch p)
+
+-- The data part holds the pages as prefixes of the run, up to the stable mark of the log part, which lack nothing below the
+-- checkpoint that was last asked for: as they were last written, or as the batch has them whose writing failed.
+pub record FinishedPages (D : LogSide) (E : DataSide) (script : List ScriptLine) (opened : Opened) (run : Ran) (s : Core D E) : Type 0 where
+  pub kept_page : ℕ → KeptPage
+  pub unfinished : List BatchPage
+  pub holds : E.Holds kept_page unfinished s.data_part
+  pub apart : AreApart unfinished
+  pub prefixes : ArePrefixes opened.pages (wholes_of script opened.shape.space run.entries) (D.stable s.log_part) (D.asked s.log_part) (contents_of kept_page) (content_in unfinished)
+
+-- What the log part holds of a run's groups its device does, by these marks of the part; and while it holds a run, the
+-- checkpoint's number isn't below this.
+pub record LogTells (D : LogSide) (c : Setup) (shape : Shape) (number : ℕ) (part : D.Part) (disk : Disk) : Type 0 where
+  pub marks : LogMarks
+  pub stable : marks.stable ≡ D.stable part
+  pub given : marks.given ≡ D.given part
+  pub ckpt : marks.ckpt ≡ D.ckpt part
+  pub asked : marks.asked ≡ D.asked part
+  pub number_kept : (log : List Entry) → D.Holds c.blocks c.base log part → number ≤ marks.number
+  pub holds : (log : List Entry) (wholes : List Whole) → D.Holds c.blocks c.base log part → AreWholesOf log wholes → LogHolds shape (lsn c.base) wholes marks disk
+
+-- What the data part holds of a run's pages its device does.
+pub record DataTells (E : DataSide) (opened : Opened) (part : E.Part) (disk : Disk) : Type 0 where
+  pub holds : (kept_page : ℕ → KeptPage) (unfinished : List BatchPage) (wholes : List Whole) (stable ckpt : ℕ) → E.Holds kept_page unfinished part → AreApart unfinished
+      → ArePrefixes opened.pages wholes stable ckpt (contents_of kept_page) (content_in unfinished) → DataHolds opened.shape opened.pages wholes stable ckpt disk

@@ -1,12 +1,15 @@
 -- The history of all groups of a log.
+-- What a run comes to, by the ghost of its log.
 use Rattle.std.specs.Prelude.{List, map, ℕ, [], ◌∷◌, ◌≡◌}
-use Rattle.model_core.specs.{answered, SharedWords, end_of, lsn}
+use Rattle.model_core.specs.{answered, SharedWords, end_of, lsn, Setup}
 use Rattle.model_report.specs.declared.entry.Entry.{Entry}
 use Rattle.model_report.specs.declared.entry.Marks.{Marks}
 use Rattle.model_log.specs.{Span, group_text, span_of}
-use Rattle.model_core.specs.Groups as core
+use Rattle.model_core.specs.States as core
 use Rattle.model_running.specs.History.{history_entry}
 use Rattle.model_log.specs.declared.group.Whole.{Whole}
+use Rattle.model_logcore.specs.{LogGhost}
+use Rattle.model_theorem.specs.{Ran}
 
 -- where each group of the log stands, in lsns
 abbrev pub log_span : core.Entry → Span
@@ -32,3 +35,6 @@ word_marks m = record { wtail = m.wtail; write = m.write; flushed = m.flushed; c
 
 abbrev pub log_spans : List core.Entry → List Span
 log_spans log = map log_span log
+
+abbrev pub run_of : Setup → LogGhost → SharedWords → Ran
+run_of c g m = record { start = lsn c.base; entries = history_of g.answered (word_marks m) g.log; marks = word_marks m }

@@ -1,12 +1,14 @@
--- The history of a run: each reserved group, and how its commit stands by the marks.
+-- The history of a run: each reserved group, and how its commit stands by the marks. And what a page is to its data device.
 use Rattle.std.specs.Prelude.{List, cond, nat_lt, slice_index, ℕ}
-use Rattle.model_core.specs.{answered, ckpt_at, end_of, flushed_at, lsn, tail_of, write_at, wtail_at}
+use Rattle.model_core.specs.{answered, ckpt_at, end_of, flushed_at, lsn, tail_of, write_at, wtail_at, BatchPage}
 use Rattle.model_report.specs.{state_by}
 use Rattle.model_report.specs.declared.entry.Entry.{Entry}
 use Rattle.model_report.specs.declared.entry.Marks.{Marks}
 use Rattle.model_report.specs.declared.entry.State.{State}
 use Rattle.model_report.specs.declared.entry.State.TheVariants.{Lost}
-use Rattle.model_core.specs.Groups as core
+use Rattle.model_core.specs.States as core
+use Rattle.model_page.specs.{user_part}
+use Rattle.model_page.specs.declared.content.Content.{Content}
 
 -- a commit that isn't answered is lost
 abbrev pub state_of : ℕ → Marks → core.Entry → State
@@ -23,3 +25,7 @@ marks_in ws = record {
   flushed = slice_index ws (flushed_at);
   ckpt = slice_index ws (ckpt_at);
 }
+
+-- what a page of a batch is to hold
+abbrev pub new_content : BatchPage → Content
+new_content x = record { lsn = x.lsn; user = user_part x.bytes }

@@ -1,11 +1,10 @@
 -- The pages of a run as it begins: those of the store that was opened.
 use Rattle.std.specs.Prelude.{Some, length, slice_get, ℕ, ◌<◌, ◌≡◌, List, None, Option, [], if◌then◌else◌, ◌==◌, ◌∷◌}
-use Rattle.model_core.specs.Setup.{Setup}
+use Rattle.model_core.specs.{Setup, BatchPage, KeptPage}
 use Rattle.model_page.specs.declared.content.Content.{Content}
 use Rattle.model_theorem.specs.{Opened}
-use Rattle.model_core.specs.{BatchPage, KeptPage}
 use Rattle.model_page.specs.{user_part}
-use Rattle.model_running.specs.PageContents.{new_content}
+use Rattle.model_running.specs.History.{new_content}
 
 abbrev pub kept_content : KeptPage → Content
 kept_content kept = record { lsn = kept.lsn; user = user_part kept.bytes }

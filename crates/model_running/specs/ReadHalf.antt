@@ -4,10 +4,8 @@ use Rattle.std.specs.Prelude.{Bool, List, [], cond, drop, false, length, nat_le,
 use lib.ListN.{get_elem?}
 use mathlib.Core.Option.{some}
 use Rattle.model_base.specs.declared.limits.TheConstants.{BLOCK_SIZE, MAX_GROUP}
-use Rattle.model_core.specs.{Actor, archives, block_end, CheckpointerState, end_of, Entry, floor, Given, IsBound, IsText, LostAt, lsn, next_piece, placed_at, read_to, ReaderState, SharedWords, stream}
-use Rattle.model_core.specs.LogSide.{LogSide}
-use Rattle.model_core.specs.Setup.{Setup}
-use Rattle.model_core.specs.Actors as actor
+use Rattle.model_core.specs.{Actor, archives, block_end, CheckpointerState, end_of, Entry, floor, Given, IsBound, IsText, LostAt, lsn, next_piece, placed_at, read_to, ReaderState, SharedWords, stream, LogSide, Setup}
+use Rattle.model_core.specs.States as actor
 use Rattle.model_core.specs.declared.steps.CheckpointerStep.{CheckpointerStep}
 use Rattle.model_core.specs.declared.steps.CheckpointerStep.TheVariants as checkpointer_step
 use Rattle.model_core.specs.declared.steps.ReaderStep.{ReaderStep}

@@ -1,14 +1,16 @@
--- A run by turns: whose turn each is, as a seed tells, and when the run ends.
-use Rattle.std.specs.Prelude.{List, cond, nat_lt, suc, zero, ℕ, ◌%◌, ◌+◌, ◌/◌, ◌<◌, ◌^◌, ◌≡◌, ◌≤◌, ◌⊎◌}
+-- A run by turns: whose turn each is, as a seed tells, and when the run ends; one turn, and the store that has an actor at each
+-- seat, the actors of the pages and the readers of the log behind the others.
+use Rattle.std.specs.Prelude.{List, cond, nat_lt, suc, zero, ℕ, ◌%◌, ◌+◌, ◌/◌, ◌<◌, ◌^◌, ◌≡◌, ◌≤◌, ◌⊎◌, length, Bool, false, map, true, ◌∷◌}
 use lib.ListN.{get_elem?}
 use mathlib.Core.Option.{some}
-use Rattle.model_core.specs.{Actor, Core, UserState}
-use Rattle.model_core.specs.DataSide.{DataSide}
-use Rattle.model_core.specs.LogSide.{LogSide}
+use Rattle.model_core.specs.{Actor, Core, UserState, lent, next, CheckpointerState, CleanerState, CloserState, ReaderState, DataSide, LogSide, Lent}
 use Rattle.model_core.specs.declared.ops.Step.{Step}
 use Rattle.model_script.specs.{draw}
-use Rattle.model_core.specs.Actors as actor
+use Rattle.model_core.specs.States as actor
 use Rattle.model_core.specs.declared.steps.UserStep.TheVariants as user_step
+use Rattle.model_core.specs.Program.{Turn}
+use Rattle.model_core.specs.declared.ops.Answer.{Answer}
+use Rattle.model_core.specs.declared.ops.Op.{Op}
 
 -- The seat whose turn the i-th is, counted from 0, of so many: as the seed draws in the first half of the turns, then one
 -- after another.
@@ -62,3 +64,38 @@ module _ {D : LogSide} {E : DataSide} (S : TurnStore D E) (seed max : ℕ) where
     pub not_ended : HasEnded state → ⊥
     pub least : (j : ℕ) (u : UserState) → get_elem? (S.core last).actors j ≡ some (actor.User u) → u.user < user
         → HasEnded u
+
+-- a turn, with some answer, and what else is told of it
+pub record TurnTaken {S : Type 0} (Turned : S → ℕ → Answer → Step → S → Type 0) (Tells : S → ℕ → Step → S → Type 0)
+    (old : S) (seat : ℕ) (step : Step) (new : S) : Type 0 where
+  pub answer : Answer
+  pub turn : Turned old seat answer step new
+  pub told : Tells old seat step new
+
+-- the store that has an actor at each seat
+abbrev pub actor_store : (D : LogSide) (E : DataSide) → (Core D E → ℕ → Step → Core D E → Type 0) → TurnStore D E
+actor_store D E Tells = record {
+  State = Core D E;
+  core = λ s. s;
+  IsNew = λ s. Unit {0};
+  seats = λ s. length s.actors;
+  Takes = TurnTaken (Turn D E) Tells;
+}
+
+-- what an Op asks of both parts, with what is lent for it, by how each part was before and is after
+abbrev pub Asks : LogSide → DataSide → Type 1
+Asks D E = Lent → Op → (old new : D.Part) (old_data new_data : E.Part) → Type 0
+
+-- both were asked so for the Op of the actor at a seat
+abbrev pub AskAt : (D : LogSide) (E : DataSide) → Asks D E → Core D E → ℕ → Step → Core D E → Type 0
+AskAt D E Ask old seat step new = (who : Actor) → get_elem? old.actors seat ≡ some who
+    → Ask (lent who) (next who) old.log_part new.log_part old.data_part new.data_part
+
+pub record PageActors : Type 0 where
+  pub closer : CloserState
+  pub cleaner : CleanerState
+  pub checkpointer : CheckpointerState
+
+abbrev pub ArePageActors : Bool → List Actor → Type 0
+ArePageActors true actors = (readers : List ReaderState) × ◌≡◌ {A = List Actor} actors (map actor.Reader readers)
+ArePageActors false actors = (p : PageActors) × (readers : List ReaderState) × ◌≡◌ {A = List Actor} actors (actor.Closer p.closer ∷ actor.Cleaner p.cleaner ∷ actor.Checkpointer p.checkpointer ∷ map actor.Reader readers)

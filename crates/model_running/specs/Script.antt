@@ -2,13 +2,12 @@
 use Rattle.std.specs.Prelude.{List, Some, length, slice_get, ℕ, ◌<◌, ◌≡◌, ◌≤◌}
 use lib.ListN.{get_elem?}
 use Rattle.model_base.specs.declared.shape.Shape.{Shape}
-use Rattle.model_core.specs.{Actor, Line, line_at, line_of, UserState}
-use Rattle.model_core.specs.Setup.{Setup}
+use Rattle.model_core.specs.{Actor, Line, line_at, line_of, UserState, Setup}
 use Rattle.model_core.specs.declared.limits.TheConstants.{READERS}
 use Rattle.model_report.specs.{lines_of_user}
 use Rattle.model_script.specs.{group_of}
 use Rattle.model_script.specs.declared.script.ScriptLine.{ScriptLine}
-use Rattle.model_core.specs.Actors as actor
+use Rattle.model_core.specs.States as actor
 use mathlib.Core.Option as maybe
 
 -- A line of the script as its user runs it: its mode, the text of its group, and the cells that the group changes, page by

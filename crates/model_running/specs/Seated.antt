@@ -1,12 +1,11 @@
 -- Which actor has which seat: the users that have lines, by their numbers, then the writer and the flusher, and then,
 -- unless the log runs alone, the closer, the cleaner and the checkpointer; and at last the readers of the log.
-use Rattle.std.specs.Prelude.{Bool, List, false, length, map, suc, ℕ, ◌++◌, ◌+◌, ◌<◌, ◌∷◌, ◌≡◌}
+use Rattle.std.specs.Prelude.{Bool, List, false, length, map, suc, true, ℕ, ◌++◌, ◌+◌, ◌<◌, ◌∷◌, ◌≡◌}
 use lib.ListN.{get_elem?}
 use mathlib.Core.Option.{some}
-use Rattle.model_core.specs.{Actor, FlusherState, UserState, WriterState}
-use Rattle.model_core.specs.Setup.{Setup}
-use Rattle.model_core.specs.Actors as actor
-use Rattle.model_running.specs.Seating.{ArePageActors}
+use Rattle.model_core.specs.{Actor, FlusherState, UserState, WriterState, Setup}
+use Rattle.model_core.specs.States as actor
+use Rattle.model_running.specs.Schedule.{ArePageActors}
 
 pub record AreSeated (live : Bool) (c : Setup) (actors : List Actor) : Type 0 where
   pub users : List UserState
@@ -19,6 +18,8 @@ pub record AreSeated (live : Bool) (c : Setup) (actors : List Actor) : Type 0 wh
       → u.user < v.user
   -- exactly the users that have lines, and of a live run those that may get some
   pub have_lines : live ≡ false → (i : ℕ) (u : UserState) → get_elem? users i ≡ some u → 0 < length (c.script u.user)
+  -- unless the run is a live one each keeps all its lines
+  pub keep : live ≡ false → (i : ℕ) (u : UserState) → get_elem? users i ≡ some u → u.keeps ≡ true
   pub all : (user : ℕ) → 0 < length (c.script user)
       → (i : ℕ) × (u : UserState) × (get_elem? users i ≡ some u) × (u.user ≡ user)
   pub closer : c.closer ≡ length users + 2

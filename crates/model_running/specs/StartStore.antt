@@ -1,15 +1,10 @@
 -- What stands at the start of a run, from which both halves of the invariant hold.
-use Rattle.std.specs.Prelude.{[], false, ℕ, ◌<◌, ◌≡◌}
+use Rattle.std.specs.Prelude.{[], false, ℕ, ◌<◌, ◌≡◌, List}
 use lib.ListN.{get_elem?}
 use mathlib.Core.Option.{some}
-use Rattle.std.specs.Prelude.{List}
-use Rattle.model_core.specs.{Actor, CheckpointerState, IsScripted, SharedWords}
-use Rattle.model_core.specs.DataSide.{DataSide}
-use Rattle.model_core.specs.LogSide.{LogSide}
-use Rattle.model_core.specs.Setup.{Setup}
-use Rattle.model_core.specs.StartWords.{StartPageWords, StartWords}
+use Rattle.model_core.specs.{Actor, CheckpointerState, IsScripted, SharedWords, DataSide, LogSide, Setup, StartPageWords, StartWords}
 use Rattle.model_logcore.specs.{StartActor, StartPart}
-use Rattle.model_core.specs.Actors as actor
+use Rattle.model_core.specs.States as actor
 
 pub record StartStore (D : LogSide) (E : DataSide) (c : Setup) (m : SharedWords) (p : D.Part) (d : E.Part) (seat_of : ℕ → ℕ) (writer : ℕ) (actors : List Actor) : Type 0 where
   pub script : IsScripted c

@@ -1,25 +1,79 @@
+-- Each latch that is held has its holder.
+-- Which groups are closed, as their users' states say.
+-- Both halves of the invariant, over one list of actors.
 -- The watermarks of a running store: what holds of its words, of both parts, of the flush lists and of the actors between
 -- any two turns, by name. Those of the log stand in `LogWatermarks`. Places of pages and lists are lsns.
-use Rattle.std.specs.Prelude.{List, slice_index, true, ℕ, ◌%◌, ◌+◌, ◌<◌, ◌≡◌, ◌≤◌, ◌⊎◌}
+use Rattle.std.specs.Prelude.{List, ℕ, ◌<◌, ◌≡◌, Bool, length, true, ◌≤◌, ◌⊎◌, slice_index, ◌%◌, ◌+◌}
 use lib.ListN.{get_elem?}
 use mathlib.Core.Option.{some}
-use Rattle.model_core.specs.{Actor, CheckpointerState, CleanerState, CloserState, Core, Each, Entry, flat, HasLost, IsArchiveCode, IsDataCode, IsLogCode, Listed, lsn, page_words_at, Relaxed, SharedWords, UserState}
-use Rattle.model_core.specs.DataSide.{DataSide}
-use Rattle.model_core.specs.LogSide.{LogSide}
-use Rattle.model_core.specs.Setup.{Setup}
+use Rattle.model_core.specs.{Actor, page_words_at, SharedWords, changes, Entry, UserState, archives, Core, flat, HasHolder, HasLost, IsScripted, layout_of, Listed, ReaderState, CheckpointerState, CleanerState, CloserState, Each, IsArchiveCode, IsDataCode, IsLogCode, lsn, Relaxed, DataSide, LogSide, Setup, start_checkpoint}
+use Rattle.model_pagecore.specs.{HasLatch, PageGhost, Agree, All, applied_upto, AreUnfinished, CheckpointerPagesAt, CleanerHasLatch, CleanerHolds, ClosedLink, end_lsn, EndsAt, HoldsOnly, is_changed_page, Last, listed_lsn, none_in_hand, PageIs, Passed, start_lsn, StartsAt, UserHasLatch, UserHolds}
+use Rattle.model_core.specs.declared.steps.UserStep.{UserStep}
+use Rattle.model_core.specs.declared.steps.UserStep.TheVariants as user_step
+use Rattle.model_core.specs.States as actor
+use Rattle.model_logcore.specs.{LogGhost, LogWatermarks, TailWordIs, LogHalf}
+use Rattle.model_pagecore.specs.PageHalf.{PageHalf}
+use Rattle.model_running.specs.ReadHalf.{ArchiverHas, HaveRunBlocks, ReadHalf, StaysInRun}
+use Rattle.model_core.specs.declared.words.Layout.{Layout}
+use Rattle.model_core.specs.declared.words.LinkBuffer.TheVariants as link_buffer
 use Rattle.model_core.specs.declared.limits.TheConstants.{CLOSED_LINKS}
 use Rattle.model_core.specs.declared.steps.CleanerStep.{CleanerStep}
-use Rattle.model_core.specs.declared.steps.UserStep.{UserStep}
-use Rattle.model_logcore.specs.{LogWatermarks, TailWordIs}
-use Rattle.model_core.specs.StartWords.{start_checkpoint}
-use Rattle.model_pagecore.specs.{Agree, All, applied_upto, AreUnfinished, CheckpointerPagesAt, CleanerHasLatch, CleanerHolds, ClosedLink, end_lsn, EndsAt, HoldsOnly, is_changed_page, Last, listed_lsn, none_in_hand, PageGhost, PageIs, Passed, start_lsn, StartsAt, UserHasLatch, UserHolds}
 use Rattle.model_report.specs.declared.entry.Marks.{Marks}
-use Rattle.model_running.specs.LatchesHeld.{LatchesAreHeld}
-use Rattle.model_running.specs.UsersClosed.{UsersClosed}
-use Rattle.model_core.specs.Actors as actor
 use Rattle.model_core.specs.declared.steps.CleanerStep.TheVariants as cleaner_step
-use Rattle.model_core.specs.declared.steps.UserStep.TheVariants as user_step
-use Rattle.model_core.specs.declared.words.LinkBuffer.TheVariants as link_buffer
+
+-- The actor that took it last: its step says that it holds it, or it has failed. `holder` gives that actor's seat.
+abbrev pub LatchesAreHeld : ℕ → SharedWords → (ℕ → ℕ) → List Actor → Type 0
+LatchesAreHeld pages m holder actors = (p : ℕ) → p < pages → (page_words_at m.page_words p).latch ≡ 1 → (a : Actor) × (get_elem? actors (holder p) ≡ some a) × HasLatch a p
+
+-- the group in hand is closed from the store of its link on, if it changes a page
+abbrev pub HandIsClosed : (ℕ → Bool) → UserState → UserStep → Type 0
+HandIsClosed closed u user_step.ReleaseLatch = closed u.start ≡ true
+HandIsClosed closed u user_step.AwaitMark = 0 < length (changes u) → closed u.start ≡ true
+HandIsClosed closed u _ = Unit {0}
+
+-- and so is each group whose commit is answered
+pub record UserClosed (log : List Entry) (closed : ℕ → Bool) (u : UserState) : Type 0 where
+  pub answered : (i : ℕ) (e : Entry) → get_elem? log i ≡ some e → e.user ≡ u.user → e.k < u.k → 0 < length e.changes → closed e.start ≡ true
+  pub in_hand : HandIsClosed closed u u.step
+
+abbrev pub UsersClosed : List Entry → (ℕ → Bool) → List Actor → Type 0
+UsersClosed log closed actors = (seat : ℕ) (u : UserState) → get_elem? actors seat ≡ some (actor.User u) → UserClosed log closed u
+
+pub record BothHalves (D : LogSide) (E : DataSide) (c : Setup) (m : SharedWords) (g : LogGhost) (h : PageGhost) (ls : ℕ → List Listed) (p : D.Part) (d : E.Part) (actors : List Actor) : Type 0 where
+  pub script : IsScripted c
+  -- a failure has a cause
+  pub cause : 0 < m.failed → D.Cause p m.failed ⊎ E.Cause d m.failed ⊎ HasLost actors m.failed
+  pub logged : LogHalf D c m g p actors
+  -- no page lacks a change that starts below a checkpoint that was asked for, good or failed
+  pub asked : D.asked p ≤ h.given
+  -- with the log alone no checkpoint is taken
+  pub stays : c.log_only ≡ true → m.ckpt ≡ start_checkpoint c
+  pub latches : LatchesAreHeld c.pages m h.holder actors
+  -- the users' states say which groups are closed
+  pub closed : UsersClosed g.log h.closed actors
+  -- who holds CTAIL
+  pub advanced : m.cheld ≡ true → HasHolder link_buffer.Closed actors
+  -- what the readers of the log have, as long as the log device tells what it means
+  pub reading : D.Tells p → ReadHalf D c m g.log p actors
+  pub blocks : D.Tells p → HaveRunBlocks D c g.log actors
+  -- whatever it tells the archiver has what it needs to append,
+  pub archiver : (seat : ℕ) (r : ReaderState) → get_elem? actors seat ≡ some (actor.Reader r) → archives r ≡ true → ArchiverHas c m g.log r
+  -- and each names readers' words that there are, and reads blocks of the run
+  pub in_run : (seat : ℕ) (a : Actor) → get_elem? actors seat ≡ some a → StaysInRun c a
+  pub paged : PageHalf E c m g.log (D.stable p) h ls d actors
+
+-- the same over the list of words
+pub record RunningStore (D : LogSide) (E : DataSide) (c : Setup) (layout : Layout) (ws : List ℕ) (ls : ℕ → List Listed) (p : D.Part) (d : E.Part) (actors : List Actor) : Type 0 where
+  pub shared : SharedWords
+  pub log_ghost : LogGhost
+  pub page_ghost : PageGhost
+  pub layout_is : layout ≡ layout_of c
+  pub flat_is : ws ≡ flat shared
+  pub both : BothHalves D E c shared log_ghost page_ghost ls p d actors
+
+-- the same of a store's whole state
+abbrev pub IsRunning : (D : LogSide) (E : DataSide) → Setup → Core D E → Type 0
+IsRunning D E c s = RunningStore D E c s.layout s.words s.lists s.log_part s.data_part s.actors
 
 -- What a user holds is told by its step, or, where it has failed, by a step at which it met the failure: that step names each
 -- page whose latch the user took last and that is held, and says how far its frame, NEWEST and OLDEST are.

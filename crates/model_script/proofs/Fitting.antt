@@ -7,10 +7,8 @@ use Rattle.model_base.specs.{IsWithinLimits}
 use Rattle.model_base.specs.declared.shape.Shape.{Shape}
 use Rattle.model_base.specs.declared.limits.TheConstants.{LSN_LIMIT, MAX_GROUP, USER_START}
 use Rattle.model_log.specs.{group_length, HasSpelling, HasText, RecordFits, user_end}
-use Rattle.model_script.specs.Fits.{ArchiveFits, LineFits, ScriptFits}
-use Rattle.model_script.specs.Fit.{archive_misfit, archive_need, first_misfit, first_misfit_of, group_misfit, item_misfit, line_misfit, lsn_misfit, misfit_if, page_misfit, script_end, total_misfit, user_misfit, write_misfit}
-use Rattle.model_script.specs.LineGroup.{group_of, record_of}
-use Rattle.model_script.specs.Ranges.{IsInRange, IsScriptLine}
+use Rattle.model_script.specs.Fits.{ArchiveFits, LineFits, ScriptFits, IsInRange, IsScriptLine}
+use Rattle.model_script.specs.Fit.{archive_misfit, archive_need, first_misfit, first_misfit_of, group_misfit, item_misfit, line_misfit, lsn_misfit, misfit_if, page_misfit, script_end, total_misfit, user_misfit, write_misfit, group_of, record_of}
 use Rattle.model_script.specs.declared.item.Item.{Item}
 use Rattle.model_script.specs.declared.item.Item.TheVariants.{Num, Text, Init}
 use Rattle.model_script.specs.declared.misfit.Misfit.{Misfit}

@@ -12,7 +12,7 @@ use Rattle.hex.proofs.HexLemmas.{decode_of-ok}
 use Rattle.model_base.specs.{lines_of}
 use Rattle.model_log.specs.{IsByte, IsWidth}
 use Rattle.model_script.specs.Grammar.{digits_value, hex_bytes, is_number, is_skipped, item_of, items_of, line_from, line_of_parts, mode_of, number_below, number_item, operations_of, script_from, script_line_of, script_of, text_item, width_of, with_line, words_of}
-use Rattle.model_script.specs.Ranges.{IsInRange, IsScriptLine}
+use Rattle.model_script.specs.Fits.{IsInRange, IsScriptLine}
 use Rattle.model_script.specs.declared.item.Item.TheVariants.{Init}
 use Rattle.model_script.specs.declared.script.ScriptLine.{ScriptLine}
 

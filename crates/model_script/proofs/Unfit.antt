@@ -10,9 +10,8 @@ use Rattle.model_log.specs.{group_length, IsUserWrite, RecordFits, user_end}
 use Rattle.model_script.proofs.Fitting.{EndFits, end_misfits, ends_fit, none-head, script_fits}
 use Rattle.model_script.proofs.ReadLines.{script_of-ranged}
 use Rattle.model_script.specs.Fits.{ArchiveFits, Fits, LineFits, ScriptFits}
-use Rattle.model_script.specs.Fit.{archive_misfit, archive_need, first_misfit, first_misfit_of, group_misfit, item_misfit, line_misfit, lsn_misfit, misfit_if, page_misfit, script_end, total_misfit, user_misfit, write_misfit}
+use Rattle.model_script.specs.Fit.{archive_misfit, archive_need, first_misfit, first_misfit_of, group_misfit, item_misfit, line_misfit, lsn_misfit, misfit_if, page_misfit, script_end, total_misfit, user_misfit, write_misfit, group_of, record_of}
 use Rattle.model_script.specs.Grammar.{script_of}
-use Rattle.model_script.specs.LineGroup.{group_of, record_of}
 use Rattle.model_script.specs.declared.item.Item.{Item}
 use Rattle.model_script.specs.declared.item.Item.TheVariants.{Num, Text, Init}
 use Rattle.model_script.specs.declared.misfit.Misfit.{Misfit}

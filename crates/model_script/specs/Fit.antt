@@ -1,18 +1,29 @@
 -- What of a script doesn't fit a store: the first quantity in the order of its lines, and within a line its user, then
--- of each operation the page and the offset, then the length of the group; after the lines the lsn at which the log
--- would end, and the room for what would be archived.
-use Rattle.std.specs.Prelude.{ℕ, ◌+◌, ◌-◌, ◌*◌, ◌||◌, nat_lt, nat_le, if◌then◌else◌, Bool, List, [], ◌∷◌, ◌++◌, length, map, Option, Some, None}
+-- of each operation the page and the offset, then the length of the group, which is the one that the line logs on the store; after
+-- the lines the lsn at which the log would end, and the room for what would be archived.
+use Rattle.std.specs.Prelude.{ℕ, List, map, ◌+◌, ◌-◌, ◌*◌, ◌||◌, nat_lt, nat_le, if◌then◌else◌, Bool, [], ◌∷◌, ◌++◌, length, Option, Some, None}
+use Rattle.model_log.specs.declared.rec.Rec.{Rec}
+use Rattle.model_log.specs.declared.rec.Rec.TheVariants as rec
+use Rattle.model_script.specs.declared.item.Item.{Item}
+use Rattle.model_script.specs.declared.item.Item.TheVariants.{Num, Text, Init}
+use Rattle.model_script.specs.declared.script.ScriptLine.{ScriptLine}
 use Rattle.model_base.specs.declared.shape.Shape.{Shape}
 use Rattle.model_base.specs.declared.limits.TheConstants.{BLOCK_SIZE, LSN_LIMIT, MAX_GROUP, USER_START}
 use Rattle.model_log.specs.{block_of, group_length, lsn_of, round_of, run_layout, sn_of, stream_of, user_end}
-use Rattle.model_script.specs.LineGroup.{group_of}
-use Rattle.model_script.specs.declared.item.Item.{Item}
-use Rattle.model_script.specs.declared.item.Item.TheVariants.{Num, Text, Init}
 use Rattle.model_script.specs.declared.misfit.Misfit.{Misfit}
 use Rattle.model_script.specs.declared.misfit.Quantity.{Quantity}
 use Rattle.model_script.specs.declared.misfit.Quantity.TheVariants.{User, Page, Offset, Group, Lsn, Total, Archive}
 use Rattle.model_script.specs.declared.misfit.TheConstants.{MARGIN, MAX_USERS}
-use Rattle.model_script.specs.declared.script.ScriptLine.{ScriptLine}
+
+-- the record of an operation, with the store's space id
+abbrev pub record_of : ℕ → Item → Rec
+record_of space (Num width page offset value) = rec.Num width space page offset value
+record_of space (Text page offset bytes) = rec.Text space page offset bytes
+record_of space (Init page) = rec.Init space page
+
+-- one record for each operation, in order
+abbrev pub group_of : ℕ → ScriptLine → List Rec
+group_of space line = map (record_of space) line.items
 
 -- the quantity with its number, where that lies outside its limits
 abbrev pub misfit_if : Bool → Quantity → ℕ → Option Misfit

@@ -1,13 +1,28 @@
+-- The ranges of what a script's lines say.
 -- That a script fits a store, by its lines and the room for all of them. It fits exactly where it has no misfit.
-use Rattle.std.specs.Prelude.{ℕ, ◌≡◌, ◌≤◌, ◌<◌, ◌+◌, if◌then◌else◌, Bool, List, Option, Some, None, IfSome}
+use Rattle.std.specs.Prelude.{◌≡◌, ◌≢◌, ◌≤◌, ◌<◌, ◌^◌, ◌⊎◌, [], length, All, ℕ, ◌+◌, if◌then◌else◌, Bool, List, Option, Some, None, IfSome}
 use Rattle.std.specs.List.{AllByRecursion}
+use Rattle.model_log.specs.{IsByte, IsWidth, group_length, GroupFits, IsGroup}
+use Rattle.model_script.specs.declared.item.Item.{Item}
+use Rattle.model_script.specs.declared.item.Item.TheVariants.{Num, Text, Init}
+use Rattle.model_script.specs.declared.script.ScriptLine.{ScriptLine}
 use Rattle.model_base.specs.declared.shape.Shape.{Shape}
 use Rattle.model_base.specs.declared.limits.TheConstants.{LSN_LIMIT, MAX_GROUP}
-use Rattle.model_log.specs.{group_length, GroupFits, IsGroup}
-use Rattle.model_script.specs.Fit.{archive_need, first_misfit, script_end}
-use Rattle.model_script.specs.LineGroup.{group_of}
+use Rattle.model_script.specs.Fit.{archive_need, first_misfit, script_end, group_of}
 use Rattle.model_script.specs.declared.misfit.TheConstants.{MARGIN, MAX_USERS}
-use Rattle.model_script.specs.declared.script.ScriptLine.{ScriptLine}
+
+-- each number of the operation is in the range of its field; a string has a byte
+abbrev pub IsInRange : Item → Type 0
+IsInRange (Num width page offset value) = IsWidth width × (page < 2 ^ 32) × (offset < 2 ^ 16) × (value < 256 ^ width)
+IsInRange (Text page offset bytes) = (page < 2 ^ 32) × (offset < 2 ^ 16) × (1 ≤ length bytes) × All IsByte bytes
+IsInRange (Init page) = page < 2 ^ 32
+
+-- a line has an operation at least
+pub record IsScriptLine (line : ScriptLine) : Type 0 where
+  pub user : line.user < 2 ^ 32
+  pub mode : (line.mode ≡ 1) ⊎ (line.mode ≡ 2) ⊎ (line.mode ≡ 0)
+  pub some : line.items ≢ []
+  pub each : AllByRecursion IsInRange line.items
 
 -- the line may run on the store: its user has one of the numbers there are, and its group is one that fits
 pub record LineFits (shape : Shape) (line : ScriptLine) : Type 0 where

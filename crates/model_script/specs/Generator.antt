@@ -1,6 +1,6 @@
 -- The script that `gen` prints: a function of a seed, the number of users and the number of groups.
 use Rattle.std.specs.Prelude.{ℕ, zero, suc, ◌+◌, ◌*◌, ◌/◌, ◌%◌, ◌^◌, ◌==◌, nat_lt, if◌then◌else◌, List, [], ◌∷◌}
-use Rattle.model_script.specs.Spelling.{script_text}
+use Rattle.model_script.specs.Grammar.{script_text}
 use Rattle.model_script.specs.declared.item.Item.{Item}
 use Rattle.model_script.specs.declared.item.Item.TheVariants.{Num, Text, Init}
 use Rattle.model_script.specs.declared.script.ScriptLine.{ScriptLine}

@@ -1,16 +1,18 @@
--- The grammar of scripts. A line is `USER MODE OP;OP;..`, with single spaces in and between the fields and no other
--- spaces. MODE is f, w or n. OP is `b1|b2|b4|b8 PAGE OFFSET VALUE`, `s PAGE OFFSET HEX` or `i PAGE`. An empty line and a
--- line that begins with # are skipped but counted.
-use Rattle.std.specs.Prelude.{ℕ, ◌+◌, ◌-◌, ◌*◌, ◌^◌, ◌==◌, ◌&&◌, nat_lt, nat_le, if◌then◌else◌, Bool, true, List, [], ◌∷◌, length, fold, codes, Option, Some, None, option_and_then, Result, Ok, Err}
-use Rattle.std.specs.List.{enumerate_from, slice_split, list_all}
+-- The grammar of scripts, and how a line is printed. A line is `USER MODE OP;OP;..`, with single spaces in and between the
+-- fields and no other spaces. MODE is f, w or n. OP is `b1|b2|b4|b8 PAGE OFFSET VALUE`, `s PAGE OFFSET HEX` or `i PAGE`. An
+-- empty line and a line that begins with # are skipped but counted. In print numbers are in decimal without leading zeros,
+-- strings in lower-case hex digits.
+use Rattle.std.specs.Prelude.{ℕ, ◌+◌, ◌-◌, ◌*◌, ◌^◌, ◌==◌, ◌&&◌, nat_lt, nat_le, if◌then◌else◌, Bool, true, List, [], ◌∷◌, length, fold, codes, Option, Some, None, option_and_then, Result, Ok, Err, ◌++◌, map}
+use Rattle.std.specs.List.{enumerate_from, slice_split, list_all, flat_map, join_with_byte}
 use Rattle.std.specs.Char.{is_ascii_digit}
 use Rattle.std.specs.Str.{bytes_eq}
 use Rattle.std.specs.Result.{result_ok}
-use Rattle.hex.specs.Hex.{decode_of}
+use Rattle.hex.specs.Hex.{decode_of, encode_lower}
 use Rattle.model_base.specs.{lines_of}
 use Rattle.model_script.specs.declared.item.Item.{Item}
 use Rattle.model_script.specs.declared.item.Item.TheVariants.{Num, Text, Init}
 use Rattle.model_script.specs.declared.script.ScriptLine.{ScriptLine}
+use Rattle.std.specs.Fmt.{decimal}
 
 -- the parts of a text between spaces, and between semicolons
 abbrev pub words_of : List ℕ → List (List ℕ)
@@ -19,7 +21,6 @@ words_of text = slice_split (λ byte. byte == 32) text
 abbrev pub operations_of : List ℕ → List (List ℕ)
 operations_of text = slice_split (λ byte. byte == 59) text
 
--- the value of decimal digits
 abbrev pub digits_value : List ℕ → ℕ
 digits_value digits = fold (λ value digit. 10 * value + (digit - 48)) 0 digits
 
@@ -114,3 +115,36 @@ script_from (text ∷ texts) =
 -- The script that a text is, or the number of its first bad line, counted from 1.
 unfoldable pub script_of : List ℕ → Result (List ScriptLine) ℕ
 script_of text = script_from (enumerate_from 1 (lines_of text))
+
+-- words with single spaces between them
+abbrev pub spaced : List (List ℕ) → List ℕ
+spaced words = join_with_byte 32 words
+
+-- the name of the operation that writes a number: `b` and its width in bytes
+abbrev pub number_name : ℕ → List ℕ
+number_name width = codes "b" ++ decimal width
+
+-- the words of an operation
+abbrev pub item_words : Item → List (List ℕ)
+item_words (Num width page offset value) = number_name width ∷ decimal page ∷ decimal offset ∷ decimal value ∷ []
+item_words (Text page offset bytes) = codes "s" ∷ decimal page ∷ decimal offset ∷ encode_lower bytes ∷ []
+item_words (Init page) = codes "i" ∷ decimal page ∷ []
+
+unfoldable pub item_text : Item → List ℕ
+item_text item = spaced (item_words item)
+
+-- f is answered once flushed, w once written, n at once
+abbrev pub mode_name : ℕ → List ℕ
+mode_name mode = if mode == 1 then codes "f" else (if mode == 2 then codes "w" else codes "n")
+
+-- the operations with semicolons between them
+abbrev pub items_text : List Item → List ℕ
+items_text items = join_with_byte 59 (map item_text items)
+
+-- a line without its line feed
+unfoldable pub script_line_text : ScriptLine → List ℕ
+script_line_text line = spaced (decimal line.user ∷ mode_name line.mode ∷ items_text line.items ∷ [])
+
+-- the lines of a script, each with its line feed
+unfoldable pub script_text : List ScriptLine → List ℕ
+script_text lines = flat_map (λ line. script_line_text line ++ 10 ∷ []) lines

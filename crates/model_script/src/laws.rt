@@ -5,9 +5,8 @@ ghost use Rattle.model_base.specs.{IsWithinLimits};
 ghost use Rattle.model_base.specs.declared.limits.TheConstants.{LSN_LIMIT};
 ghost use Rattle.model_base.specs.declared.shape.Shape.{Shape};
 ghost use Rattle.model_script.specs.Fit.{archive_need, first_misfit, script_end};
-ghost use Rattle.model_script.specs.Fits.{ArchiveFits, Fits, LineFits, ScriptFits};
+ghost use Rattle.model_script.specs.Fits.{ArchiveFits, Fits, LineFits, ScriptFits, IsScriptLine};
 ghost use Rattle.model_script.specs.Grammar.{script_of};
-ghost use Rattle.model_script.specs.Ranges.{IsScriptLine};
 ghost use Rattle.model_script.specs.declared.misfit.TheConstants.{MARGIN};
 ghost use Rattle.model_script.specs.declared.script.ScriptLine.{ScriptLine};
 

@@ -1,7 +1,7 @@
 -- Which images of the data device are fair.
 use Rattle.std.proofs.Common.{inl, refl, arith}
 use Rattle.model_base.specs.declared.shape.Shape.{Shape}
-use Rattle.model_device.specs.Disk.{Disk}
+use Rattle.model_device.specs.{Disk}
 use Rattle.model_store.specs.Fair.{IsFair}
 
 -- what stood there at the last good sync is

@@ -12,9 +12,7 @@ use Rattle.model_log.specs.declared.block.BlockView.{BlockView}
 use Rattle.model_page.specs.declared.content.Content.{Content}
 use Rattle.model_store.specs.Apply.{page_after, pages_after_from, applied, folded, touches, user_after}
 use Rattle.model_store.specs.UpTo.{page_folded}
-use Rattle.model_store.specs.Reading.{Reading, IsReading, IsReadPage, replayed}
-use Rattle.model_store.specs.Scan.{AreGroupsOf, groups_start, Source}
-use Rattle.model_store.specs.Taking.{taken}
+use Rattle.model_store.specs.Scan.{Reading, IsReading, IsReadPage, replayed, AreGroupsOf, groups_start, Source, taken}
 
 pub length-pages_after_from : (p : ℕ) (recs : List Rec) (end : ℕ) (xs : List Content) → length (pages_after_from p recs end xs) ≡ length xs
 length-pages_after_from p recs end [] = refl

@@ -12,9 +12,7 @@ use Rattle.model_page.specs.declared.content.Content.{Content}
 use Rattle.model_page.specs.{data_device_length, IsLost}
 use Rattle.model_store.specs.declared.refusal.Refusal.{Refusal}
 use Rattle.model_store.specs.declared.refusal.Refusal.TheVariants.{SmallLog, NotFormatted, BadFormat, SmallData, NoCheckpoint, BadRecord, PageLost, PageAhead}
-use Rattle.model_store.specs.Scan.{IsScan, IsBadRecord, AreGroups, AreGroupsOf, groups_start, data_from, Source}
-use Rattle.model_store.specs.Taking.{taken}
-use Rattle.model_store.specs.Reading.{Reading, IsReading, Refuses, HasScan, HasHead, HasDevices, IsScanned, IsKeptAt, AreKeptBelow, AreNotAheadBelow}
+use Rattle.model_store.specs.Scan.{IsScan, IsBadRecord, AreGroups, AreGroupsOf, groups_start, data_from, Source, taken, Reading, IsReading, Refuses, HasScan, HasHead, HasDevices, IsScanned, IsKeptAt, AreKeptBelow, AreNotAheadBelow}
 use Rattle.model_store.proofs.Places.{has_place, same_some}
 use Rattle.model_store.proofs.OneScan.{OneGroup, same_scan, same_blocks, same_groups, front-no_storable}
 use Rattle.model_page.proofs.Kept.{same_kept, kept-not_lost}

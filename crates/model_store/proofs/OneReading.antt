@@ -7,10 +7,8 @@ use Rattle.model_log.specs.{layout_of, newest_checkpoint}
 use Rattle.model_log.specs.declared.head.Format.{Format}
 use Rattle.model_log.specs.declared.layout.Layout.{Layout}
 use Rattle.model_page.specs.declared.content.Content.{Content}
-use Rattle.model_store.specs.Scan.{IsScan}
-use Rattle.model_store.specs.Taking.{taken}
-use Rattle.model_store.specs.Reading.{Reading, IsReading, HasScan, HasHead, IsReadPage, replayed}
-use Rattle.model_store.specs.Reading.{AreReadPages}
+use Rattle.model_store.specs.Scan.{IsScan, taken, Reading, IsReading, HasScan, HasHead, IsReadPage, replayed}
+use Rattle.model_store.specs.Found.{AreReadPages}
 use Rattle.model_store.proofs.Places.{same_places, same_some}
 use Rattle.model_store.proofs.OneScan.{OneGroup, same_scan}
 use Rattle.model_page.proofs.Kept.{same_kept}

@@ -13,8 +13,7 @@ use Rattle.model_log.specs.declared.layout.Layout.{Layout}
 use Rattle.model_log.specs.declared.layout.TheConstants.{BLOCK_DATA}
 use Rattle.model_log.proofs.Layouts.{has-blocks, is_layout_of}
 use Rattle.model_log.proofs.Places.{place-within}
-use Rattle.model_store.specs.Scan.{Taken, taken_from, Source}
-use Rattle.model_store.specs.Taking.{if_full, if_tail, in_place_or, longer, read_full, read_tail, taken, taken_among}
+use Rattle.model_store.specs.Scan.{Taken, taken_from, Source, if_full, if_tail, in_place_or, longer, read_full, read_tail, taken, taken_among}
 use Rattle.model_store.proofs.Ending.{first-place}
 use Rattle.model_store.proofs.Sources.{IsSoundSource}
 

@@ -4,8 +4,7 @@
 use Rattle.std.specs.Prelude.{ℕ, ◌≡◌, ◌≢◌, ◌≤◌, ◌<◌, ◌+◌, ◌*◌, true, List, length, take}
 use Rattle.model_base.specs.declared.shape.Shape.{Shape}
 use Rattle.model_base.specs.declared.limits.TheConstants.{BLOCK_SIZE}
-use Rattle.model_device.specs.{after_writes, IsImage, sector}
-use Rattle.model_device.specs.Disk.{Disk}
+use Rattle.model_device.specs.{after_writes, IsImage, sector, Disk}
 use Rattle.model_log.specs.{fits_checksum}
 use Rattle.model_page.specs.{page_check, stretch_at}
 use Rattle.model_page.specs.declared.page.PageState.TheVariants.{Broken}

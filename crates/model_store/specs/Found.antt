@@ -1,12 +1,15 @@
--- Where the blocks stand that the scan of a log took: in their places, but the last of them may stand in a tail block.
-use Rattle.std.specs.Prelude.{ℕ, suc, ◌≡◌, ◌≢◌, ◌<◌, List, length, Option, Some, None}
+-- Where the blocks stand that the scan of a log took: in their places, but the last of them may stand in a tail block. And the
+-- pages of a store as they are read.
+use Rattle.std.specs.Prelude.{ℕ, suc, ◌≡◌, ◌≢◌, ◌<◌, List, length, Option, Some, None, slice_get}
 use Rattle.model_log.specs.{header_block, IsTailPlace, log_block, lsn_at}
 use Rattle.model_log.specs.declared.block.BlockView.{BlockView}
 use Rattle.model_log.specs.declared.head.Format.TheVariants.{One}
 use Rattle.model_log.specs.declared.layout.Layout.{Layout}
-use Rattle.model_store.specs.Scan.{taken_from}
-use Rattle.model_store.specs.Taking.{read_full, read_tail, taken}
+use Rattle.model_store.specs.Scan.{taken_from, read_full, read_tail, taken, IsReadPage}
 use Rattle.model_store.specs.declared.tail.Tail.{Tail}
+use Rattle.model_base.specs.declared.shape.Shape.{Shape}
+use Rattle.model_log.specs.declared.group.Whole.{Whole}
+use Rattle.model_page.specs.declared.content.Content.{Content}
 
 -- full blocks stand in their places from the checkpoint on, so many
 abbrev pub AreInPlace : Layout → List ℕ → ℕ → ℕ → Type 0
@@ -35,3 +38,8 @@ AreFoundIn layout image ckpt views (Some tail) = IsInTail layout image ckpt view
 abbrev pub IsTakenTail : Option Tail → ℕ → Type 0
 IsTakenTail None k = ⊥
 IsTakenTail (Some tail) k = k ≡ tail.which
+
+-- the pages of a store as they are read
+pub record AreReadPages (shape : Shape) (data_bytes : List ℕ) (wholes : List Whole) (end : ℕ) (pages : List Content) : Type 0 where
+  pub count : length pages ≡ shape.pages
+  pub each : (p : ℕ) (page : Content) → slice_get pages p ≡ Some page → IsReadPage shape data_bytes wholes end p page

@@ -1,14 +1,14 @@
 // What is read off the two devices of a store is determined, and what its pages are.
 ghost use Rattle.std.specs.Prelude.{◌≡◌, ◌≤◌, ℕ, List, length, Some, slice_get};
 ghost use Rattle.model_base.specs.declared.shape.Shape.{Shape};
-ghost use Rattle.model_device.specs.Disk.{Disk};
+ghost use Rattle.model_device.specs.{Disk};
 ghost use Rattle.model_page.specs.declared.content.Content.{Content};
 ghost use Rattle.model_log.specs.declared.group.Whole.{Whole};
 ghost use Rattle.model_store.specs.Apply.{folded};
 ghost use Rattle.model_store.specs.UpTo.{page_folded};
 ghost use Rattle.model_store.specs.Fair.{IsFair};
 ghost use Rattle.model_store.specs.declared.refusal.Refusal.{Refusal};
-ghost use Rattle.model_store.specs.Reading.{Reading, IsReading, Refuses};
+ghost use Rattle.model_store.specs.Scan.{Reading, IsReading, Refuses};
 
 use model_log::one_group;
 

@@ -2,11 +2,10 @@
 use Rattle.std.proofs.Common.{◌≡◌, ℕ, zero, suc, ◌+◌, ◌==◌, Bool, true, false, cond, length, slice_get, ◌≤◌, ◌<◌, List, [], ◌∷◌, Some, None, Ok, sym, ap, ◌∙◌, refl, subst, arith, inl, inr, ⊎_elim, ◌≢◌, ◌⊎◌}
 use Rattle.std.specs.Prelude.{take}
 use Rattle.model_base.specs.declared.shape.Shape.{Shape}
-use Rattle.model_store.specs.{folded}
+use Rattle.model_store.specs.{folded, Reading}
 use Rattle.std.proofs.lemmas.Bool.{eqb-true}
 use Rattle.model_base.specs.Lines as lines
-use Rattle.model_device.specs.{Crashes, IsCovered, IsImage, sector, settled}
-use Rattle.model_device.specs.Disk.{Disk}
+use Rattle.model_device.specs.{Crashes, IsCovered, IsImage, sector, settled, Disk}
 use Rattle.model_device.specs.declared.write.Write.{Write}
 use Rattle.model_report.specs.{count_up_to, entries_of_user, HasLeft, IsLeft, IsLegal, IsLegalEntry, lines_of_user, wholes_of}
 use Rattle.model_report.specs.declared.entry.Entry.{Entry}
@@ -18,17 +17,14 @@ use Rattle.model_log.specs.declared.layout.Layout.{Layout}
 use Rattle.model_script.specs.declared.script.ScriptLine.{ScriptLine}
 use Rattle.model_base.specs.Spelling as spelling
 use Rattle.model_log.specs.Group as group
-use Rattle.model_log.specs.Record as text
 use Rattle.model_script.specs.{group_of, LineFits, script_end, script_of}
 use Rattle.model_script.specs.Grammar as grammar
 use Rattle.model_script.proofs.Unfit.{fitting-none}
 use Rattle.model_base.specs.{default_shape, run_shape}
-use Rattle.model_store.specs.Reading.{Reading}
 use Rattle.model_store.proofs.Heads.{head-sizes}
 use Rattle.model_base.specs.declared.limits.TheConstants.{LSN_LIMIT, START_LSN}
-use Rattle.model_theorem.specs.Values.{Opened}
+use Rattle.model_theorem.specs.Run.{Opened, HasCheckpoint, IsOpenedBefore, Ran}
 use Rattle.model_parts.specs.{IsUnopened}
-use Rattle.model_theorem.specs.Opening.{HasCheckpoint, IsOpeningDone, IsOpeningStopped}
 use Rattle.model_theorem.proofs.Refused.{base-image}
 use Rattle.model_theorem.specs.Examples.{AreOfBlocks, IsAdmitted, MovedCheckpoint, new_store, ReadsAsOpened, lost_run, line_of_value, two_lines, text_of_two, text_of_one, empty_crash, lost_crash, stopped_crash}
 use Rattle.model_log.specs.declared.layout.TheConstants.{HEADER_BLOCKS, HEADER_BYTES}
@@ -73,8 +69,8 @@ run-checkpoint format shape number ckpt log other is =
     (format-of_run format shape (head-sizes (header_block 0 log) (header_block 2 log) format shape is.head) other) is
 
 -- so the checkpoint that is read is newer than the one that was found, in each image
-opening-done : (found log data_bytes : List ℕ) (writes : List Write) (reads : List ℕ) (opened : Opened) (reading : Reading) → ReadsAsOpened log data_bytes opened reading
-    → MovedCheckpoint found opened reading → AreOfBlocks writes → IsOpeningDone opened.shape (settled found) (record { base = log; writes = writes; reads = reads })
+opening-done : {run : Ran} (found log data_bytes : List ℕ) (writes : List Write) (reads : List ℕ) (opened : Opened) (reading : Reading) → ReadsAsOpened log data_bytes opened reading
+    → MovedCheckpoint found opened reading → AreOfBlocks writes → IsOpenedBefore opened.shape (settled found) (record { base = log; writes = writes; reads = reads }) (Some run)
 opening-done found log data_bytes writes reads opened reading as_opened held are =
     let disk : Disk = record { base = log; writes = writes; reads = reads } in
     let long : HEADER_BYTES ≤ length log = as_opened.is_read.scan.devices.head.long in
@@ -85,7 +81,7 @@ opening-done found log data_bytes writes reads opened reading as_opened held are
       number = held.older.found;
       ckpt = held.older.ckpt;
       found = held.older.newest;
-      moved = λ image fair. record {
+      ends = λ image fair. record {
         number = reading.number;
         ckpt = reading.ckpt;
         newest = record {
@@ -107,7 +103,7 @@ still-found Three shape number ckpt log is = inr is
 -- and where opening was stopped it is the one that was found
 opening-stopped : (log data_bytes : List ℕ) (opened : Opened) (reading : Reading) (disk : Disk)
     → ReadsAsOpened log data_bytes opened reading → run_shape opened.shape ≡ opened.shape → disk.base ≡ log
-    → IsOpeningStopped opened.shape (settled log) disk
+    → IsOpenedBefore opened.shape (settled log) disk None
 opening-stopped log data_bytes opened reading disk as_opened runs base =
     let here : HasCheckpoint reading.format opened.shape reading.number reading.ckpt log = found-checkpoint log data_bytes opened reading as_opened in
     record {
@@ -115,7 +111,7 @@ opening-stopped log data_bytes opened reading disk as_opened runs base =
       number = reading.number;
       ckpt = reading.ckpt;
       found = record { runs_by = runs; format = reading.format; newest = here };
-      unmoved = subst (IsUnopened opened.shape reading.number reading.ckpt) (sym base) (record {
+      ends = subst (IsUnopened opened.shape reading.number reading.ckpt) (sym base) (record {
         format = reading.format;
         head = here.head;
         still = still-found reading.format opened.shape reading.number reading.ckpt log here.newest;
@@ -137,16 +133,16 @@ one-text = refl
 
 -- the lines fit a new store
 seven-short : group_length (group_of 1 (line_of_value 7)) ≡ 6
-unfolding group.group_text text.single_text spelling.spelling32
+unfolding group.group_text group.single_text spelling.spelling32
 seven-short = refl
 
 eight-short : group_length (group_of 1 (line_of_value 8)) ≡ 6
-unfolding group.group_text text.single_text spelling.spelling32
+unfolding group.group_text group.single_text spelling.spelling32
 eight-short = refl
 
 -- and both end far below the limit
 two-long : length (group.stream_of (group_of 1 (line_of_value 7) ∷ group_of 1 (line_of_value 8) ∷ [])) ≡ 12
-unfolding group.stream_of group.group_text text.single_text spelling.spelling32
+unfolding group.stream_of group.group_text group.single_text spelling.spelling32
 two-long = refl
 
 two-end : script_end default_shape 8204 two_lines < LSN_LIMIT

@@ -7,13 +7,12 @@ use Rattle.model_base.specs.declared.shape.Shape.{Shape}
 use Rattle.model_base.specs.{IsWithinLimits}
 use Rattle.model_log.specs.declared.group.Whole.{Whole}
 use Rattle.model_log.specs.{groups_of, IsAtDataStart, IsRunOf, run_layout, start_after, run_format, newest_checkpoint}
-use Rattle.model_device.specs.Disk.{Disk}
+use Rattle.model_device.specs.{Disk}
 use Rattle.model_log.specs.declared.block.BlockView.{BlockView}
 use Rattle.model_log.proofs.Formats.{of_run}
 use Rattle.model_log.specs.declared.layout.Layout.{Layout}
 use Rattle.model_page.specs.declared.content.Content.{Content}
-use Rattle.model_store.specs.{folded, HasScan, IsFair, IsFairLog, IsNoNewerCopy, IsReadPage, IsStorable, page_folded, taken, IsScan}
-use Rattle.model_store.specs.Reading.{Reading}
+use Rattle.model_store.specs.{folded, HasScan, IsFair, IsFairLog, IsNoNewerCopy, IsReadPage, IsStorable, page_folded, taken, IsScan, Reading}
 use Rattle.model_page.specs.{copy_lsn}
 use Rattle.model_theorem.proofs.Cuts.{IsCut, kept-page, copies-old}
 use Rattle.model_store.proofs.Places.{has_place}
@@ -22,8 +21,7 @@ use Rattle.model_report.specs.{FitsMarks, IsLegal, IsLegalEntry}
 use Rattle.model_report.specs.declared.entry.Entry.{Entry}
 use Rattle.model_report.specs.declared.entry.Marks.{Marks}
 use Rattle.model_report.specs.declared.entry.State.TheVariants.{Flushed}
-use Rattle.model_theorem.specs.Run.{ReadsPrefix}
-use Rattle.model_theorem.specs.Values.{Opened, Ran}
+use Rattle.model_theorem.specs.Run.{ReadsPrefix, Opened, Ran}
 use Rattle.model_parts.specs.{CrashReads, FitsStore, LogHolds, LogHoldsWith, ScansTo}
 use Rattle.model_parts.specs.declared.marks.LogMarks.{LogMarks}
 use Rattle.model_theorem.specs.Kept.{DataHolds}

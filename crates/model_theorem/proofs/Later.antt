@@ -5,7 +5,7 @@ use Rattle.std.specs.List.{AllByRecursion}
 use Rattle.model_base.specs.declared.shape.Shape.{Shape}
 use Rattle.model_log.specs.declared.group.Whole.{Whole}
 use Rattle.model_log.specs.{groups_of, IsDataLsn, IsRunOf, last_span_end, spans_of}
-use Rattle.model_device.specs.Disk.{Disk}
+use Rattle.model_device.specs.{Disk}
 use Rattle.model_page.specs.declared.content.Content.{Content}
 use Rattle.model_store.specs.{IsNoNewerCopy, IsStorable, page_after, page_folded, touches, upto, user_after}
 use Rattle.model_log.proofs.Runs.{First, first-of, run-first, run-front, run-back}

@@ -3,8 +3,7 @@ use Rattle.std.proofs.Common.{◌≡◌, Bool, true, false, cond, inl, inr, ℕ,
 use Rattle.std.proofs.lemmas.Bool.{cases_lt}
 use Rattle.model_base.specs.declared.shape.Shape.{Shape}
 use Rattle.model_log.specs.declared.group.Whole.{Whole}
-use Rattle.model_device.specs.{sector}
-use Rattle.model_device.specs.Disk.{Disk}
+use Rattle.model_device.specs.{sector, Disk}
 use Rattle.model_log.specs.{fits_checksum, head_among, head_of, newer, newest_checkpoint, place_of, read_checkpoint, read_head, run_layout, run_format}
 use Rattle.model_log.specs.declared.head.Head.{Head}
 use Rattle.model_log.specs.declared.head.Head.TheVariants.{Good}
@@ -16,7 +15,7 @@ use Rattle.model_parts.proofs.Torn.{stands-sector}
 use Rattle.model_parts.specs.declared.marks.LogMarks.{LogMarks}
 use Rattle.model_parts.proofs.LogImages.{header-below, place-cases, when_less, when_not_less}
 use Rattle.model_theorem.specs.Older.{HeldOlder}
-use Rattle.model_theorem.specs.Opening.{HasCheckpointFrom, IsOpenedBefore}
+use Rattle.model_theorem.specs.Run.{HasCheckpointFrom, IsOpenedBefore}
 use Rattle.model_theorem.specs.Closed.{Held, IsHeld, groups_of_run}
 use Rattle.model_log.specs.declared.layout.TheConstants.{HEADER_BLOCKS}
 use Rattle.model_log.proofs.Formats.{of_run}
@@ -119,7 +118,7 @@ held-opened held armed_from is older = record {
   number = older.found;
   ckpt = older.ckpt;
   found = older.newest;
-  moved = λ image fair.
+  ends = λ image fair.
       (let has : HasCheckpointFrom held.opened.shape held.number image = held-number held image is fair in
       record { number = has.number; ckpt = has.ckpt; newest = has.newest; from = omega (arith, older.older, has.from) });
 }

@@ -5,8 +5,7 @@ use Rattle.std.proofs.lemmas.Bool.Decides.{nat_tests}
 use Rattle.model_base.proofs.ShapeLimits.{early_facts}
 use Rattle.model_base.specs.declared.limits.TheConstants.{SLOTS}
 use Rattle.model_base.specs.declared.shape.Shape.{Shape}
-use Rattle.model_device.specs.{IsImage}
-use Rattle.model_device.specs.Disk.{Disk}
+use Rattle.model_device.specs.{IsImage, Disk}
 use Rattle.model_log.specs.{has_sizes_of, head_of, header_block, IsTiled, layout_of, newest_checkpoint, run_layout, start_after, run_format}
 use Rattle.model_log.specs.declared.head.Format.{Format}
 use Rattle.model_log.specs.declared.head.Format.TheVariants.{One, Two, Three}
@@ -14,15 +13,12 @@ use Rattle.model_log.specs.declared.head.Head.TheVariants.{Good}
 use Rattle.model_store.proofs.Heads.{head-sizes}
 use Rattle.model_log.specs.declared.layout.Layout.{Layout}
 use Rattle.model_script.specs.declared.script.ScriptLine.{ScriptLine}
-use Rattle.model_store.specs.{IsFairLog}
-use Rattle.model_store.specs.Reading.{Reading}
+use Rattle.model_store.specs.{IsFairLog, Reading}
 use Rattle.model_report.specs.{count_up_to, entry_spans}
 use Rattle.model_report.specs.declared.entry.Entry.{Entry}
 use Rattle.model_report.specs.declared.entry.State.TheVariants.{Lost}
-use Rattle.model_theorem.specs.Values.{Opened, Ran, entries_of}
-use Rattle.model_theorem.specs.Run.{IsPrefixRead, IsRun, LosesOnlyByFailure}
+use Rattle.model_theorem.specs.Run.{Opened, Ran, entries_of, IsPrefixRead, IsRun, LosesOnlyByFailure, HasCheckpoint, HasCheckpointFrom, IsOpenedBefore}
 use Rattle.model_theorem.specs.Examples.{HasGap, IsStillUnopened, LacksFlushedGroup, WasOpened}
-use Rattle.model_theorem.specs.Opening.{HasCheckpoint, HasCheckpointFrom, IsOpenedBefore, IsOpeningDone, IsOpeningStopped}
 use Rattle.model_theorem.proofs.Sizes.{run-slots}
 
 none-up-to : (end : ℕ) (entry : Entry) → end < entry.end → count_up_to end (entry ∷ []) ≡ 0
@@ -86,8 +82,8 @@ same-number found now number ckpt later later_ckpt same is is_now =
 pub refuses-run : (shape : Shape) (armed met : Disk) (run : Ran) → IsOpenedBefore shape armed met (Some run)
     → IsStillUnopened shape armed met → ⊥
 refuses-run shape armed met run is runs =
-    let done : IsOpeningDone shape armed met = is in
-    let here : HasCheckpointFrom shape (done.number + 1) met.base = done.moved met.base (base-fair met) in
+    let done : IsOpenedBefore shape armed met (Some run) = is in
+    let here : HasCheckpointFrom shape (done.number + 1) met.base = done.ends met.base (base-fair met) in
     let layout : Layout = layout_of (run_format shape) shape in
     let was : HasCheckpoint done.found.format done.was done.number done.ckpt armed.base = done.found.newest in
     let same = one-head done.found.format (run_format shape) done.was shape
@@ -108,22 +104,22 @@ record IsUnmoved (shape : Shape) (armed met : Disk) : Type 0 where
   head : head_of met.base ≡ head_of armed.base
   newest : newest_checkpoint (run_layout shape) met.base ≡ newest_checkpoint (run_layout shape) armed.base
 
-unmoved-run : (shape : Shape) (armed met : Disk) → (stopped : IsOpeningStopped shape armed met) → stopped.was ≡ shape
+unmoved-run : (shape : Shape) (armed met : Disk) → (stopped : IsOpenedBefore shape armed met None) → stopped.was ≡ shape
     → IsUnmoved shape armed met
 unmoved-run shape armed met stopped is =
     let was : Shape = stopped.was in
     let slots : was.slots ≡ SLOTS = ap (λ (s : Shape). s.slots) is ∙ run-slots was shape stopped.found.runs_by in
     let found : HasCheckpoint stopped.found.format was stopped.number stopped.ckpt armed.base = stopped.found.newest in
     let one : stopped.found.format ≡ Three = head-three armed.base stopped.found.format was found.head slots in
-    let other : stopped.unmoved.format ≡ Three =
-    head-three met.base stopped.unmoved.format was stopped.unmoved.head slots in
+    let other : stopped.ends.format ≡ Three =
+    head-three met.base stopped.ends.format was stopped.ends.head slots in
     let before : newest_checkpoint (run_layout was) armed.base ≡ Some (stopped.number, stopped.ckpt) =
     subst (λ (f : Format). newest_checkpoint (layout_of f was) armed.base ≡ Some (stopped.number, stopped.ckpt))
     one found.newest in
     let after : newest_checkpoint (run_layout was) met.base ≡ Some (stopped.number, stopped.ckpt) =
-    ⊎_elim (λ early. absurd (early other)) (λ same. same) stopped.unmoved.still in
+    ⊎_elim (λ early. absurd (early other)) (λ same. same) stopped.ends.still in
     record {
-      head = stopped.unmoved.head ∙ ap (λ (f : Format). Good f was) (other ∙ sym one) ∙ sym found.head;
+      head = stopped.ends.head ∙ ap (λ (f : Format). Good f was) (other ∙ sym one) ∙ sym found.head;
       newest = subst
           (λ (s : Shape). newest_checkpoint (run_layout s) met.base ≡ newest_checkpoint (run_layout s) armed.base)
           is (after ∙ sym before);
@@ -131,11 +127,11 @@ unmoved-run shape armed met stopped is =
 
 pub refuses-stopped : (shape : Shape) (armed met : Disk) → IsOpenedBefore shape armed met None → WasOpened shape armed met → ⊥
 refuses-stopped shape armed met is opened =
-    let stopped : IsOpeningStopped shape armed met = is in
+    let stopped : IsOpenedBefore shape armed met None = is in
     ⊎_elim
     (λ head.
-    let same = one-head stopped.unmoved.format (run_format shape) stopped.was shape
-    (sym stopped.unmoved.head ∙ head.0) in
+    let same = one-head stopped.ends.format (run_format shape) stopped.was shape
+    (sym stopped.ends.head ∙ head.0) in
     let unmoved : IsUnmoved shape armed met = unmoved-run shape armed met stopped same.1 in
     head.1 unmoved.head)
     (λ moved.

@@ -3,7 +3,7 @@ use Rattle.std.proofs.Common.{◌≡◌, ℕ, ◌+◌, ◌<◌, List, arith, ap,
 use Rattle.model_base.specs.declared.limits.TheConstants.{SLOTS}
 use Rattle.model_base.specs.declared.shape.Shape.{Shape}
 use Rattle.model_base.specs.{IsWithinLimits, run_shape}
-use Rattle.model_device.specs.Disk.{Disk}
+use Rattle.model_device.specs.{Disk}
 use Rattle.model_page.specs.{stretch_at}
 use Rattle.model_store.specs.{IsFair, IsWholeContent}
 

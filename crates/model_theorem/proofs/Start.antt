@@ -4,16 +4,15 @@ use Rattle.std.proofs.lemmas.Bool.{cases_lt}
 use Rattle.model_base.proofs.ShapeLimits.{run_within}
 use Rattle.model_base.specs.{run_shape}
 use Rattle.model_base.specs.declared.shape.Shape.{Shape}
-use Rattle.model_device.specs.Disk.{Disk}
+use Rattle.model_device.specs.{Disk}
 use Rattle.model_log.specs.{IsLayout, run_layout}
 use Rattle.model_log.specs.declared.head.Format.TheVariants.{Two}
 use Rattle.model_log.proofs.Layouts.{has-blocks, is_layout_of}
 use Rattle.model_parts.specs.{first_marks, first_tails, IsLive, IsRewritten, LogHolds, numbers_taken, start_block, start_of}
 use Rattle.model_page.specs.declared.content.Content.{Content}
-use Rattle.model_store.specs.{IsFair, IsNoNewerCopy}
+use Rattle.model_store.specs.{IsFair, IsNoNewerCopy, Reading}
 use Rattle.model_script.specs.declared.script.ScriptLine.{ScriptLine}
 use Rattle.model_report.specs.{IsLeft}
-use Rattle.model_store.specs.Reading.{Reading}
 use Rattle.model_parts.proofs.LogFresh.{fresh-live}
 use Rattle.model_parts.proofs.Pages.{stored-image}
 use Rattle.model_parts.proofs.Reread.{IsLogRead, log-read, HasNext, has-next}

@@ -2,10 +2,9 @@
 use Rattle.std.proofs.Common.{ℕ, ◌≤◌, inl, inr, List, Some, None, Option, arith, sym, ap, subst, ⊎_elim}
 use Rattle.model_base.specs.declared.shape.Shape.{Shape}
 use Rattle.model_log.specs.declared.group.Whole.{Whole}
-use Rattle.model_device.specs.Disk.{Disk}
+use Rattle.model_device.specs.{Disk}
 use Rattle.model_page.specs.declared.content.Content.{Content}
-use Rattle.model_theorem.specs.Kept.{IsKeptPrefix, DataHolds, copy_of}
-use Rattle.model_theorem.specs.Stored.{IsEither, IsBatchPrefix, IsPageStored, IsStored}
+use Rattle.model_theorem.specs.Kept.{IsKeptPrefix, DataHolds, copy_of, IsEither, IsBatchPrefix, IsPageStored, IsStored}
 use Rattle.model_theorem.proofs.Later.{passed-on}
 
 -- what either content is

@@ -3,12 +3,11 @@
 use Rattle.std.specs.Prelude.{ℕ, ◌≤◌, List, Some}
 use Rattle.model_base.specs.declared.limits.TheConstants.{LSN_LIMIT}
 use Rattle.model_log.specs.declared.group.Whole.{Whole}
-use Rattle.model_device.specs.Disk.{Disk}
+use Rattle.model_device.specs.{Disk}
 use Rattle.model_script.specs.declared.script.ScriptLine.{ScriptLine}
 use Rattle.model_report.specs.{IsLeft, wholes_of}
 use Rattle.model_report.specs.declared.entry.Marks.{Marks}
-use Rattle.model_theorem.specs.Run.{IsRun, LosesOnlyByFailure}
-use Rattle.model_theorem.specs.Values.{Opened, Ran}
+use Rattle.model_theorem.specs.Run.{IsRun, LosesOnlyByFailure, Opened, Ran}
 use Rattle.model_parts.specs.{LogHolds}
 use Rattle.model_parts.specs.declared.marks.LogMarks.{LogMarks}
 use Rattle.model_theorem.specs.Given.{AreGiven}

@@ -5,8 +5,7 @@ use Rattle.model_base.specs.{default_shape}
 use Rattle.model_base.specs.declared.limits.TheConstants.{FIRST_DATA_LSN, LSN_LIMIT}
 use Rattle.model_base.specs.declared.shape.Shape.{Shape}
 use Rattle.model_page.specs.{blank_pages}
-use Rattle.model_device.specs.{Crashes, settled}
-use Rattle.model_device.specs.Disk.{Disk}
+use Rattle.model_device.specs.{Crashes, settled, Disk}
 use Rattle.model_device.specs.declared.write.Write.{Write}
 use Rattle.model_log.specs.{head_of, layout_of, newest_checkpoint, run_layout, start_after, run_format}
 use Rattle.model_log.specs.declared.head.Format.{Format}
@@ -16,16 +15,12 @@ use Rattle.model_log.specs.declared.layout.TheConstants.{HEADER_BYTES}
 use Rattle.model_script.specs.{script_end, script_of}
 use Rattle.model_script.specs.declared.item.Item.TheVariants.{Num}
 use Rattle.model_script.specs.declared.script.ScriptLine.{ScriptLine}
-use Rattle.model_store.specs.{HasOldCopies, IsReading}
-use Rattle.model_store.specs.Reading.{Reading}
+use Rattle.model_store.specs.{HasOldCopies, IsReading, Reading}
 use Rattle.model_report.specs.{IsLeft}
 use Rattle.model_report.specs.declared.entry.Entry.{Entry}
 use Rattle.model_report.specs.declared.entry.State.TheVariants.{Lost, Flushed}
 use Rattle.model_theorem.specs.Older.{HeldOlder}
-use Rattle.model_theorem.specs.Opening.{IsOpenedBefore}
-use Rattle.model_theorem.specs.Run.{IsPrefixRead, IsRun, LosesOnlyByFailure}
-use Rattle.model_theorem.specs.Script.{misfit_on}
-use Rattle.model_theorem.specs.Values.{Opened, Ran, entries_of}
+use Rattle.model_theorem.specs.Run.{IsOpenedBefore, IsPrefixRead, IsRun, LosesOnlyByFailure, misfit_on, Opened, Ran, entries_of}
 
 -- REFUSED.
 

@@ -6,7 +6,7 @@ use Rattle.model_base.specs.{IsWithinLimits}
 use Rattle.model_page.specs.declared.content.Content.{Content}
 use Rattle.model_script.specs.declared.script.ScriptLine.{ScriptLine}
 use Rattle.model_script.specs.{LineFits}
-use Rattle.model_theorem.specs.Values.{Opened}
+use Rattle.model_theorem.specs.Run.{Opened}
 
 -- a store of the latest format, no page of which is ahead of its log, and a script of which each line fits it
 pub record AreGiven (script : List ScriptLine) (opened : Opened) : Type 0 where

@@ -2,13 +2,12 @@
 use Rattle.std.specs.Prelude.{ℕ, ◌+◌, List, []}
 use Rattle.std.specs.List.{AllByRecursion}
 use Rattle.model_base.specs.{run_shape}
-use Rattle.model_device.specs.Disk.{Disk}
-use Rattle.model_store.specs.{IsOrderly}
-use Rattle.model_store.specs.Reading.{Reading}
+use Rattle.model_device.specs.{Disk}
+use Rattle.model_store.specs.{IsOrderly, Reading}
 use Rattle.model_parts.specs.{IsReady, numbers_taken, start_block, start_of}
 use Rattle.model_script.specs.{LineFits}
 use Rattle.model_script.specs.declared.script.ScriptLine.{ScriptLine}
-use Rattle.model_theorem.specs.Values.{Opened}
+use Rattle.model_theorem.specs.Run.{Opened}
 use Rattle.model_theorem.specs.Closed.{Closed}
 
 -- a store that was read as this, as it is opened

@@ -1,17 +1,15 @@
 // What the parts of the promise refuse, and what they admit together. Each law stands as the contract of a function with nothing to do.
 ghost use Rattle.std.specs.Prelude.{◌≡◌, ◌≢◌, ◌≤◌, ℕ, List, Option, Some, None, slice_get};
 ghost use Rattle.model_base.specs.declared.shape.Shape.{Shape};
-ghost use Rattle.model_device.specs.Disk.{Disk};
+ghost use Rattle.model_device.specs.{Disk};
 ghost use Rattle.model_device.specs.declared.write.Write.{Write};
 ghost use Rattle.model_log.specs.{start_after};
 ghost use Rattle.model_report.specs.declared.entry.Entry.{Entry};
 ghost use Rattle.model_report.specs.declared.entry.State.TheVariants.{Lost};
 ghost use Rattle.model_script.specs.declared.script.ScriptLine.{ScriptLine};
-ghost use Rattle.model_store.specs.Reading.{Reading};
+ghost use Rattle.model_store.specs.{Reading};
 ghost use Rattle.model_theorem.specs.Examples.{AreOfBlocks, HasGap, IsAdmitted, IsStillUnopened, LacksFlushedGroup, MovedCheckpoint, ReadsAsOpened, WasOpened, empty_crash, lost_crash, new_store, stopped_crash};
-ghost use Rattle.model_theorem.specs.Opening.{IsOpenedBefore};
-ghost use Rattle.model_theorem.specs.Run.{IsPrefixRead, IsRun, LosesOnlyByFailure};
-ghost use Rattle.model_theorem.specs.Values.{Opened, Ran, entries_of};
+ghost use Rattle.model_theorem.specs.Run.{IsOpenedBefore, IsPrefixRead, IsRun, LosesOnlyByFailure, Opened, Ran, entries_of};
 
 /// A group that was printed as flushed and that the recovered log lacks is refused.
 pub fn missing_flushed_group_is_refused()

@@ -2,8 +2,7 @@
 use Rattle.std.proofs.Common.{◌≡◌, ◌≤◌, ◌<◌, ◌+◌, ◌*◌, ◌^◌, ℕ, List, [], length, Option, Some, None, sym, ap, subst, ◌∙◌, ⊎_elim, arith}
 use Rattle.model_base.specs.{IsWithinLimits}
 use Rattle.model_base.specs.declared.shape.Shape.{Shape}
-use Rattle.model_device.specs.{IsPutOrNot, settled, synced, written}
-use Rattle.model_device.specs.Disk.{Disk}
+use Rattle.model_device.specs.{IsPutOrNot, settled, synced, written, Disk}
 use Rattle.model_device.specs.declared.write.Write.{Write}
 use Rattle.model_log.specs.declared.group.Whole.{Whole}
 use Rattle.model_log.specs.{block_of, blocks_between, IsAtDataStart, IsDataLsn, last_span_end, spans_of}
@@ -17,8 +16,7 @@ use Rattle.model_archive.proofs.NextMark.{mark-put, mark-sectors, mark-stays, ma
 use Rattle.model_archive.proofs.Writes.{length-put}
 use Rattle.redo_disk.specs.{HasSize, IsRange, write_at}
 use Rattle.redo_disk.specs.declared.error.DevError.{DevError}
-use Rattle.redo_archive.specs.Calls.{after_two, FailsTwo}
-use Rattle.redo_archive.specs.Part.{DiskArchives}
+use Rattle.redo_archive.specs.Part.{after_two, FailsTwo, DiskArchives}
 
 -- what is asked of `append`, and of the run
 pub record IsAsked (size : ℕ) (shape : Shape) (s : ℕ) (wholes : List Whole) (marks : ArchMarks) (mark : ℕ)

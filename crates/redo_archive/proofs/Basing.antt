@@ -3,7 +3,7 @@ use Rattle.std.proofs.Common.{◌≡◌, ◌≤◌, ◌<◌, ◌+◌, ◌*◌, �
 use Rattle.model_base.specs.{IsWithinLimits}
 use Rattle.model_base.specs.declared.shape.Shape.{Shape}
 use Rattle.model_base.proofs.ShapeLimits.{whole_sectors}
-use Rattle.model_device.specs.Disk.{Disk}
+use Rattle.model_device.specs.{Disk}
 use Rattle.model_page.specs.declared.content.Content.{Content}
 use Rattle.model_page.specs.{page_check, place_lsn_by, user_part}
 use Rattle.model_archive.specs.{AreBasePages, base_bytes, base_lsn, IsBasePage, IsFirstUnsound, pages_end}

@@ -6,7 +6,7 @@ use Rattle.model_base.specs.declared.shape.Shape.{Shape}
 use Rattle.model_device.specs.declared.write.Write.{Write}
 use Rattle.model_page.specs.{page_text}
 use Rattle.model_page.specs.declared.content.Content.{Content}
-use Rattle.redo_archive.specs.Calls.{base_writes, page_write}
+use Rattle.redo_archive.specs.Part.{base_writes, page_write}
 use Rattle.redo_disk.specs.{Call, error_of, MakesCall, MakesCalls, Request, Serve, ToWrite, write_at, Writes}
 use Rattle.redo_disk.specs.declared.error.DevError.{DevError}
 use Rattle.redo_disk.proofs.Made.{call_serves, no_calls, serves_then}
@@ -31,7 +31,7 @@ module _ {D : Type 0} (gives : D → Call → D → Type 0) where
   -- no page yet
   pub pages-none : (device : D) → MakesCalls gives device device (Serve [] None)
   pages-none device = no_calls gives device (Serve [] None)
-      (record { ends = record { stop = tt; first = refl }; rest = []; asked = refl; all = λ none. refl })
+      (record { ends = refl; rest = []; asked = refl; all = λ none. refl })
 
   -- one more of the pages
   pub pages-more : (old middle new : D) (shape : Shape) (pages : List Content) (p at : ℕ) (page : Content)

@@ -3,7 +3,7 @@ use Rattle.std.proofs.Common.{◌≡◌, ◌≤◌, ◌<◌, ◌+◌, ◌-◌, �
 use Rattle.std.proofs.lemmas.Bool.{cases_lt}
 use Rattle.std.proofs.lemmas.List.{append-nil, take-append-le, take_all, take_min}
 use Rattle.std.proofs.Math.Seq.{take-append-add}
-use Rattle.model_device.specs.Disk.{Disk}
+use Rattle.model_device.specs.{Disk}
 use Rattle.model_log.specs.declared.block.BlockView.{BlockView}
 use Rattle.model_log.specs.{block_of, data_of, length_at, read_block, sector_at, sn_of}
 use Rattle.model_page.specs.declared.content.Content.{Content}
@@ -11,7 +11,7 @@ use Rattle.model_store.specs.{bytes_of, Source, taken_from}
 use Rattle.model_archive.specs.{archive_block, archive_length, archived_at, archived_bytes, block_count, block_lsn, BreaksAt, data_of_blocks, HasBadRecord, HasLongBlock, HasLongBlocks, IsFirstShort, pages_end}
 use Rattle.model_archive.specs.declared.extent.Extent.{Extent}
 use Rattle.model_archive.proofs.Images.{block-is, pages-sector}
-use Rattle.redo_disk.specs.Seen.{Seen}
+use Rattle.redo_disk.specs.{Seen}
 use Rattle.redo_archive.specs.Grouped.{Aim, AreRead, HasLsnRoom, IsApplied}
 use Rattle.redo_archive.specs.Restoring.{aim_of, IsNoBlock, IsRestoredBy, IsSoundExtent}
 use Rattle.redo_archive.specs.declared.groups.Groups.{Groups}

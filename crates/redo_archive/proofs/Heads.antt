@@ -1,6 +1,6 @@
 -- The head and the marks of an archive, which were read off the front of a device.
 use Rattle.std.proofs.Common.{◌≡◌, ◌≤◌, ◌<◌, ◌+◌, ◌*◌, ℕ, inl, inr, List, length, Option, Some, None, IfSome, sym, ap, ap₂, ◌∙◌, ⊎_elim, arith}
-use Rattle.model_device.specs.Disk.{Disk}
+use Rattle.model_device.specs.{Disk}
 use Rattle.model_log.specs.{header_block, newer, sector_at}
 use Rattle.model_archive.specs.{archive_length, HasExtent, IsMissing, newest_mark, read_archive_head, read_mark}
 use Rattle.model_archive.specs.declared.extent.Extent.{Extent}

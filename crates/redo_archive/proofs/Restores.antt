@@ -1,16 +1,14 @@
 -- What the parts of restoring come to.
 use Rattle.std.proofs.Common.{◌≡◌, ◌<◌, ◌⊎◌, ℕ, List, Option, Some, refl, sym, subst}
-use Rattle.model_device.specs.Disk.{Disk}
+use Rattle.model_device.specs.{Disk}
 use Rattle.model_page.specs.declared.content.Content.{Content}
 use Rattle.model_archive.specs.{AreBasePages, HasExtent, IsFirstShort, IsFirstUnsound, IsReachedBy, IsRestored, RefusesRestore}
 use Rattle.model_archive.specs.declared.extent.Extent.{Extent}
 use Rattle.model_archive.specs.declared.refusal.RestoreRefusal.TheVariants as refusal
-use Rattle.redo_disk.specs.{Call}
-use Rattle.redo_disk.specs.Seen.{Seen}
+use Rattle.redo_disk.specs.{Call, Seen}
 use Rattle.redo_disk.specs.declared.error.DevError.{DevError}
 use Rattle.redo_disk.specs.declared.error.DevError.TheVariants as device
-use Rattle.redo_recover.specs.Reads.{IsOnlyRead}
-use Rattle.redo_recover.specs.Devices.{OnContent}
+use Rattle.redo_recover.specs.Devices.{IsOnlyRead, OnContent}
 use Rattle.redo_recover.proofs.Contents.{content-both, content-weaker}
 use Rattle.redo_archive.specs.Restoring.{device_error, HasRestoreCause, IsBaseFault, IsBlocksFault, IsExtentFault, IsRestoredBy, restore_fault}
 use Rattle.redo_archive.specs.declared.restored.Restored.{Restored}

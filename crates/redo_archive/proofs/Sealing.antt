@@ -5,9 +5,8 @@ use Rattle.std.specs.List.{slice_get}
 use Rattle.std.proofs.lemmas.List.{append-nil, drop-drop, drop_at, take-append-drop, take_at}
 use Rattle.model_base.specs.{IsWithinLimits, overwritten}
 use Rattle.model_base.specs.declared.shape.Shape.{Shape}
-use Rattle.model_device.specs.{synced, written}
+use Rattle.model_device.specs.{synced, written, Disk}
 use Rattle.model_device.proofs.Overwritten.{length-overwritten}
-use Rattle.model_device.specs.Disk.{Disk}
 use Rattle.model_page.specs.{page_text}
 use Rattle.model_page.specs.declared.content.Content.{Content}
 use Rattle.model_archive.specs.{base_text, pages_end}

@@ -1,4 +1,3 @@
-pub mod Calls
 pub mod Grouped
 pub mod Part
 pub mod Restoring

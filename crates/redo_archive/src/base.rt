@@ -5,8 +5,7 @@ ghost use Rattle.model_archive.specs.declared.layout.TheConstants.{ARCHIVE_HEADE
 ghost use Rattle.model_base.specs.{IsWithinLimits};
 ghost use Rattle.redo_apply.specs.{ArePagesOf};
 ghost use Rattle.redo_archive.specs.Restoring.{device_error_of, IsBaseFault};
-ghost use Rattle.redo_recover.specs.Devices.{OnContent};
-ghost use Rattle.redo_recover.specs.Reads.{IsOnlyRead};
+ghost use Rattle.redo_recover.specs.Devices.{OnContent, IsOnlyRead};
 
 use crate::RestoreFault;
 use crate::places::page_place;

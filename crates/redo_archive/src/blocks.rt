@@ -6,8 +6,7 @@ ghost use Rattle.model_log.specs.{length_at, read_block};
 ghost use Rattle.model_log.specs.declared.layout.TheConstants.{BLOCK_HEADER};
 ghost use Rattle.redo_apply.specs.{ArePagesOf};
 ghost use Rattle.redo_archive.specs.Restoring.{device_error_of, IsBlocksFault, IsNoBlock, IsRestoredBy, IsSoundExtent};
-ghost use Rattle.redo_recover.specs.Devices.{OnContent};
-ghost use Rattle.redo_recover.specs.Reads.{IsOnlyRead};
+ghost use Rattle.redo_recover.specs.Devices.{OnContent, IsOnlyRead};
 
 use crate::groups::Groups;
 use crate::places::{archive_length, blocks_between, pages_end};

@@ -49,7 +49,7 @@ fn is_run_start(start: u64) -> bool
 }
 
 /// Where the run starts and the shape of its store, by the 512 bytes of a head; nothing where it doesn't pass.
-#[tactic(auto, unfolding(model_archive::specs::Layout::read_archive_head))]
+#[tactic(auto, unfolding(model_archive::specs::Restore::read_archive_head))]
 pub(crate) fn read_archive_head(bytes: &[u8; 512]) -> Option<(u64, Shape)>
     ensures { result ≡ read_archive_head bytes.now }
 {

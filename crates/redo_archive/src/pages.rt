@@ -5,7 +5,7 @@ ghost use Rattle.model_archive.specs.declared.layout.TheConstants.{ARCHIVE_HEADE
 ghost use Rattle.model_base.specs.{IsWithinLimits, overwritten, user_length};
 ghost use Rattle.model_page.specs.{FitsPage, page_text};
 ghost use Rattle.redo_apply.specs.{ArePagesOf};
-ghost use Rattle.redo_archive.specs.Calls.{base_writes};
+ghost use Rattle.redo_archive.specs.Part.{base_writes};
 ghost use Rattle.redo_disk.specs.{HasCause, HasSize, MakesCalls, OnTold, Serve, ToWrite};
 
 use crate::places::page_place;

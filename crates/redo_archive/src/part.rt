@@ -1,8 +1,7 @@
 // The archive part: a device with the mark up to which a run is archived on it.
 ghost use Rattle.std.specs.Prelude.{◌≡◌, ◌++◌, None, OnOk, OnErr};
 ghost use Rattle.model_archive.specs.{after_append, after_asking, next_mark_number};
-ghost use Rattle.redo_archive.specs.Calls.{blocks_write, mark_write};
-ghost use Rattle.redo_archive.specs.Part.{KeepsArchive, MayAppend, Stays};
+ghost use Rattle.redo_archive.specs.Part.{blocks_write, mark_write, KeepsArchive, MayAppend, Stays};
 ghost use Rattle.redo_disk.specs.{error_of, MakesCalls, put_requests, Serve};
 
 use crate::marks::{fill_mark, mark_place};

@@ -4,7 +4,7 @@ ghost use Rattle.model_archive.specs.{AreTexts, base_text, begun_bytes, pages_en
 ghost use Rattle.model_base.specs.{IsWithinLimits};
 ghost use Rattle.model_device.specs.{settled};
 ghost use Rattle.redo_apply.specs.{ArePagesOf};
-ghost use Rattle.redo_archive.specs.Calls.{after_two, begin_requests, FailsTwo};
+ghost use Rattle.redo_archive.specs.Part.{after_two, begin_requests, FailsTwo};
 ghost use Rattle.redo_disk.specs.{error_of, HasCause, HasSize, IsRange, MakesCalls, OnTold, put_requests, Serve, write_at};
 
 use crate::head::fill_archive_head;

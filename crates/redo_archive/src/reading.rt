@@ -3,8 +3,7 @@ ghost use Rattle.std.specs.Prelude.{◌≡◌, ◌≤◌, IfOk, IfErr, length};
 ghost use Rattle.model_archive.specs.{archive_length, HasExtent, IsRestored};
 ghost use Rattle.model_base.specs.declared.limits.TheConstants.{MAX_PAGES};
 ghost use Rattle.redo_archive.specs.Restoring.{device_error_of, HasRestoreCause, IsExtentFault, IsSoundExtent};
-ghost use Rattle.redo_recover.specs.Devices.{OnContent};
-ghost use Rattle.redo_recover.specs.Reads.{IsOnlyRead};
+ghost use Rattle.redo_recover.specs.Devices.{OnContent, IsOnlyRead};
 
 use crate::base::read_base;
 use crate::blocks::restore_blocks;

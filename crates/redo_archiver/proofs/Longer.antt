@@ -6,7 +6,7 @@ use Rattle.model_log.specs.declared.group.Whole.{Whole}
 use Rattle.model_page.specs.declared.content.Content.{Content}
 use Rattle.redo_archive.specs.Part.{DiskArchives, Part, PartArchives}
 use Rattle.redo_disk.proofs.Told.{known-as}
-use Rattle.redo_disk.specs.Seen.{Seen}
+use Rattle.redo_disk.specs.{Seen}
 
 pub part-longer : {A : Type 0} (seen : A → Seen) (pages : List Content) (wholes more : List Whole) (part : Part A)
     → IsRunOf part.start (wholes ++ more)

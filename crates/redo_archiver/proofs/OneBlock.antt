@@ -5,7 +5,7 @@ use Rattle.model_log.proofs.BoundaryRound.{block-longer}
 use Rattle.model_log.proofs.Runs.{boundary-before_end, boundary-longer, data-start}
 use Rattle.model_log.specs.{block_of, IsAtDataStart, IsRunOf, last_span_end, spans_of}
 use Rattle.model_log.specs.declared.group.Whole.{Whole}
-use Rattle.redo_archiver.specs.Archived.{IsFullBlock}
+use Rattle.redo_archiver.specs.Appending.{IsFullBlock}
 
 -- the run goes up to there
 pub mark-reached : (s : ℕ) (wholes : List Whole) (from mark : ℕ) (bytes : List ℕ) → IsAtDataStart s → IsRunOf s wholes

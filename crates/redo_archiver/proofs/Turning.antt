@@ -3,9 +3,9 @@ use Rattle.std.proofs.Common.{Bool, ap, arith, cond, false, refl, subst, sym, tr
 use Rattle.std.proofs.lemmas.Bool.{leb-false}
 use Rattle.std.specs.Prelude.{nat_le}
 use Rattle.model_log.specs.{IsDataLsn}
-use Rattle.model_core.specs.Lsn.{floor}
+use Rattle.model_core.specs.Lanes.{floor}
 use Rattle.model_core.specs.{after_of, archives, checked_of, followed, has_all, next, next_mark, old_of, reader_op, reader_program, reader_took, ReaderState, to_append}
-use Rattle.model_core.specs.Actors as actor
+use Rattle.model_core.specs.States as actor
 use Rattle.model_core.specs.ReaderProgram.{Filling, reader_filled}
 use Rattle.model_core.specs.declared.ops.Answer.{Answer}
 use Rattle.model_core.specs.declared.ops.Answer.TheVariants as answer
@@ -14,8 +14,8 @@ use Rattle.model_core.specs.declared.steps.ReaderStep.{ReaderStep}
 use Rattle.model_core.specs.declared.steps.ReaderStep.TheVariants as reader_step
 use Rattle.model_core.specs.declared.words.Word.TheVariants as word
 use Rattle.redo_archive.specs.Part.{Part}
-use Rattle.redo_archiver.specs.Archived.{appends_at, AppendsNothing, heard_at, HearsFlushed, KeepsPace, RoundAt}
-use Rattle.redo_disk.specs.Seen.{Seen}
+use Rattle.redo_archiver.specs.Appending.{appends_at, AppendsNothing, heard_at, HearsFlushed, KeepsPace, RoundAt}
+use Rattle.redo_disk.specs.{Seen}
 
 -- where it asks for an append that is of its next mark
 pub appending-mark : (r : ReaderState) (mark : ℕ) → next (actor.Reader r) ≡ op.Append mark → mark ≡ next_mark r

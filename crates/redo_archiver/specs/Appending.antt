@@ -1,21 +1,25 @@
 -- One block that is appended to an archive: what is asked, what is answered, and what the archive then holds.
-use Rattle.std.specs.Prelude.{ℕ, ◌≡◌, ◌≤◌, ◌<◌, ◌+◌, ◌++◌, List, None, Option, Some}
-use Rattle.model_archive.specs.{after_append, after_asking, archive_length, HasNextMark, IsArchivedBlock, next_mark_number}
+-- What a drive says of its archiver and of the archive beside it, from turn to turn.
+-- After the run the blocks that the archive lacks are appended, one by one, the last with FLUSHED as its mark.
+use Rattle.std.specs.Prelude.{ℕ, ◌≡◌, ◌≤◌, ◌<◌, ◌+◌, ◌++◌, List, None, Option, Some, ◌-◌, ◌*◌, cond, true, min}
+use Rattle.model_archive.specs.{after_append, after_asking, archive_length, HasNextMark, IsArchivedBlock, next_mark_number, pages_end}
 use Rattle.model_archive.specs.declared.marks.ArchMarks.{ArchMarks}
 use Rattle.model_base.specs.{HasRisen}
 use Rattle.model_base.specs.declared.limits.TheConstants.{BLOCK_SIZE, LSN_LIMIT}
-use Rattle.model_core.specs.{archive_device_code, no_memory_code}
+use Rattle.model_core.specs.{archive_device_code, no_memory_code, archives, next_mark, old_of, ReaderState}
 use Rattle.model_core.specs.declared.ops.Answer.{Answer}
 use Rattle.model_core.specs.declared.ops.Answer.TheVariants as answer
-use Rattle.model_log.specs.{block_of, IsAtDataStart, IsDataLsn, IsRunOf}
+use Rattle.model_log.specs.{block_of, IsAtDataStart, IsDataLsn, IsRunOf, IsBoundary, IsBoundaryBlock, spans_of}
 use Rattle.model_log.specs.declared.group.Whole.{Whole}
 use Rattle.model_page.specs.declared.content.Content.{Content}
-use Rattle.redo_archive.specs.Calls.{blocks_write, mark_write}
-use Rattle.redo_archive.specs.Part.{Part, PartArchives}
-use Rattle.redo_disk.specs.{put_requests, Request}
-use Rattle.redo_disk.specs.Seen.{Seen}
+use Rattle.redo_archive.specs.Part.{blocks_write, mark_write, Part, PartArchives}
+use Rattle.redo_disk.specs.{put_requests, Request, Seen}
 use Rattle.redo_disk.specs.declared.error.DevError.{DevError}
 use Rattle.redo_disk.specs.declared.error.DevError.TheVariants.{Failed, NoMemory}
+use Rattle.model_core.specs.declared.steps.ReaderStep.{ReaderStep}
+use Rattle.model_core.specs.declared.steps.ReaderStep.TheVariants as reader_step
+use Rattle.model_log.specs.declared.layout.TheConstants.{BLOCK_HEADER}
+use Rattle.model_parts.specs.Marks.{NEXT_DATA}
 
 -- what FAILED gets where a call of the archive's device answered this error, or 0
 abbrev pub append_code : Option DevError → ℕ
@@ -69,3 +73,87 @@ KeepsBlock seen old mark block new =
     HasNextMark old.marks → (pages : List Content) (wholes : List Whole) → IsRunOf old.start wholes
     → IsArchivedBlock old.start wholes mark (block_of old.marks.mark) block
     → PartArchives seen pages wholes old → PartArchives seen pages wholes new
+
+-- the device has room for each block up to that of the lsn
+abbrev pub HasRoomTo : {A : Type 0} → (A → Seen) → ℕ → Part A → Type 0
+HasRoomTo seen limit part =
+    pages_end part.shape + (block_of limit + BLOCK_SIZE - block_of part.start) ≤ (seen part.dev).size
+
+-- every mark so far stands a block after the one before
+abbrev pub IsCounted : {A : Type 0} → Part A → Type 0
+IsCounted part = part.start + BLOCK_SIZE * part.marks.number ≡ part.marks.mark
+
+-- its block is full below the mark that it has loaded, and no append of it has failed
+abbrev pub IsInRound : ReaderState → Type 0
+IsInRound r = (r.lost ≡ 0) × (next_mark r ≤ r.mark)
+
+abbrev pub RoundAt : ReaderState → ReaderStep → Type 0
+RoundAt r reader_step.LoadFlushed = r.lost ≡ 0
+RoundAt r reader_step.TakeDevice = IsInRound r
+RoundAt r reader_step.GiveBroken = IsInRound r
+RoundAt r reader_step.ReadBlock = IsInRound r
+RoundAt r reader_step.GiveDevice = IsInRound r
+RoundAt r reader_step.Append = IsInRound r
+RoundAt r reader_step.StorePlace = r.lost ≡ 0
+RoundAt r _ = Unit {0}
+
+-- THE ARCHIVE IS AS FAR AS THE ARCHIVER: its newest mark stands at the first data byte of the archiver's block, and its
+-- part has failed exactly where the archiver's append has. `flushed` is some value that FLUSHED has had: the newest mark
+-- and what the archiver has loaded of FLUSHED are at most that. The device has room up to the limit.
+pub record KeepsPace {A : Type 0} (seen : A → Seen) (limit flushed : ℕ) (r : ReaderState)
+    (part : Part A) : Type 0 where
+  pub kind : archives r ≡ true
+  pub start : IsAtDataStart part.start
+  pub mark : part.marks.mark ≡ r.place + BLOCK_HEADER
+  pub counted : IsCounted part
+  pub lost : r.lost ≡ append_code part.failed
+  pub round : RoundAt r r.step
+  pub loaded : r.mark ≤ flushed
+  pub up_to : part.marks.mark ≤ flushed
+  pub within : flushed ≤ limit
+  pub small : limit < LSN_LIMIT
+  pub room : HasRoomTo seen limit part
+
+-- AN ARCHIVE BESIDE ITS ARCHIVER: it is as far, and it archives the run's groups so far over the pages with which the
+-- run was opened.
+pub record HasArchived {A : Type 0} (seen : A → Seen) (limit flushed : ℕ) (pages : List Content) (wholes : List Whole)
+    (r : ReaderState) (part : Part A) : Type 0 where
+  pub pace : KeepsPace seen limit flushed r part
+  pub archives : PartArchives seen pages wholes part
+
+-- the bytes are the block at x of a run: that for a boundary no earlier than the first data byte of the next block
+pub record IsFullBlock (s : ℕ) (wholes : List Whole) (x : ℕ) (bytes : List ℕ) : Type 0 where
+  pub m : ℕ
+  pub boundary : IsBoundary s (spans_of wholes) m
+  pub enough : x + NEXT_DATA ≤ m
+  pub block : IsBoundaryBlock s wholes m x bytes
+
+-- what a load of FLUSHED tells: the place of a byte, at most `flushed`
+abbrev pub heard_at : ℕ → ℕ → ReaderStep → Type 0
+heard_at flushed n reader_step.LoadFlushed = (n ≤ flushed) × IsDataLsn n
+heard_at flushed n _ = Unit {0}
+
+abbrev pub HearsFlushed : ℕ → ReaderState → Answer → Type 0
+HearsFlushed flushed r answer = cond r.checks (Unit {0}) (heard_at flushed (old_of answer) r.step)
+
+-- the Op of its step is an append
+abbrev pub appends_at : ReaderStep → Type 0
+appends_at reader_step.Append = ⊥
+appends_at _ = Unit {0}
+
+-- its next Op is no append
+abbrev pub AppendsNothing : ReaderState → Type 0
+AppendsNothing r = cond r.checks (Unit {0}) (appends_at r.step)
+
+-- An archive that lacks what is flushed above its newest mark, or nothing. What it lacks begins with a block.
+pub record IsToFinish {A : Type 0} (seen : A → Seen) (flushed : ℕ) (part : Part A) : Type 0 where
+  pub start : IsAtDataStart part.start
+  pub place : IsDataLsn flushed
+  pub small : flushed < LSN_LIMIT
+  pub up_to : part.marks.mark ≤ flushed
+  pub counted : part.marks.mark < flushed → IsCounted part
+  pub room : HasRoomTo seen flushed part
+
+-- the mark of its next block
+abbrev pub finishing_mark : {A : Type 0} → ℕ → Part A → ℕ
+finishing_mark flushed part = min (part.marks.mark + BLOCK_SIZE) flushed

@@ -1,9 +1,8 @@
 // What the archiver asks for, and what it makes of the answer.
 ghost use Rattle.std.specs.Prelude.{◌≡◌, ◌≤◌, ◌<◌, ◌^◌, ◌==◌, if◌then◌else◌, true};
 ghost use Rattle.std.specs.Borrow.{sem};
-ghost use Rattle.model_core.specs.Actors as actor;
-ghost use Rattle.model_core.specs.AnswerFits.{AnswerFits};
-ghost use Rattle.model_core.specs.{after_of, archived, archives, checked_of, lent, next, reader_ending, reader_program, step_of};
+ghost use Rattle.model_core.specs.States as actor;
+ghost use Rattle.model_core.specs.{AnswerFits, after_of, archived, archives, checked_of, lent, next, reader_ending, reader_program, step_of};
 ghost use Rattle.redo_archiver.specs.Lending.{LendsRoom};
 ghost use Rattle.redo_archiver.specs.Rounds.{last_block};
 ghost use Rattle.redo_words.specs.{Lends};

@@ -5,7 +5,7 @@ ghost use Rattle.model_archive.specs.{pages_end};
 ghost use Rattle.model_base.specs.declared.limits.TheConstants.{BLOCK_SIZE, LSN_LIMIT};
 ghost use Rattle.model_base.specs.declared.shape.Shape.{Shape};
 ghost use Rattle.model_core.specs.{after_of, new_reader, next, reader_program, ReaderState};
-ghost use Rattle.model_core.specs.Actors as actor;
+ghost use Rattle.model_core.specs.States as actor;
 ghost use Rattle.model_core.specs.ReaderProgram.{Filling, reader_filled};
 ghost use Rattle.model_core.specs.declared.ops.Answer.{Answer};
 ghost use Rattle.model_core.specs.declared.ops.Op.TheVariants as op;
@@ -13,9 +13,7 @@ ghost use Rattle.model_log.specs.{block_of, IsAtDataStart, IsBoundary, IsBoundar
 ghost use Rattle.model_log.specs.declared.group.Whole.{Whole};
 ghost use Rattle.model_page.specs.declared.content.Content.{Content};
 ghost use Rattle.redo_archive.specs.Part.{IsBegun, Part, PartArchives};
-ghost use Rattle.redo_archiver.specs.AfterRun.{finishing_mark, IsToFinish};
-ghost use Rattle.redo_archiver.specs.Appending.{IsAppended, KeepsBlock, MayAppendBlock};
-ghost use Rattle.redo_archiver.specs.Archived.{AppendsNothing, HasArchived, HearsFlushed, IsFullBlock, KeepsPace};
+ghost use Rattle.redo_archiver.specs.Appending.{finishing_mark, IsToFinish, IsAppended, KeepsBlock, MayAppendBlock, AppendsNothing, HasArchived, HearsFlushed, IsFullBlock, KeepsPace};
 
 use redo_disk::Sectors;
 

@@ -19,7 +19,7 @@ pub fn place_at(shape: &Shape, page: u32) -> u64
 }
 
 /// Reads a slot or a place, of which the slots come first.
-#[tactic(auto, unfolding(model_page::specs::Copies::stretch_at))]
+#[tactic(auto, unfolding(model_page::specs::Page::stretch_at))]
 pub fn read_stretch<D: Sectors>(
     device: &mut D,
     shape: &Shape,

@@ -3,9 +3,8 @@ use Rattle.std.proofs.Common.{List, [], ◌∷◌, ◌++◌, Option, Some, None,
 use Rattle.model_device.specs.declared.write.Write.{Write}
 use Rattle.redo_disk.specs.declared.error.DevError.{DevError}
 use Rattle.redo_disk.specs.declared.error.DevError.TheVariants.{NoMemory}
-use Rattle.redo_disk.specs.Calls.{Answer, Call, Reads, Writes, Syncs, device_answer, error_of, Request, ToSync, request_of, put_requests, EndWith, Serve}
+use Rattle.redo_disk.specs.Calls.{Answer, Call, Reads, Writes, Syncs, device_answer, error_of, Request, ToSync, request_of, put_requests, EndWith, Serve, Makes, MakesCall, MakesCalls}
 use Rattle.redo_disk.specs.ReadCalls.{MayEndWith}
-use Rattle.redo_disk.specs.Made.{Makes, MakesCall, MakesCalls}
 use Rattle.redo_disk.proofs.Calls.{EndWith-append, MayEndWith-ends, MayEndWith-no_memory, Serve-append, Serve-cut}
 
 pub Makes-append : {D : Type 0} (gives : D → Call → D → Type 0) (old middle new : D) (xs ys : List Call) → Makes gives old xs middle → Makes gives middle ys new → Makes gives old (xs ++ ys) new
@@ -60,12 +59,7 @@ pub one_call : {D : Type 0} {gives : D → Call → D → Type 0} {old new : D} 
 one_call {new = new} {call = call} Are are given = record { calls = call ∷ []; made = (new, given, refl); are = are }
 
 pub EndWith-one : (call : Call) → EndWith (error_of (device_answer call)) (call ∷ [])
-EndWith-one (Reads at before (Ok done) after) = record { stop = (tt, tt); first = refl }
-EndWith-one (Reads at before (Err error) after) = record { stop = (refl, tt); first = refl }
-EndWith-one (Writes write (Ok done)) = record { stop = (tt, tt); first = refl }
-EndWith-one (Writes write (Err error)) = record { stop = (refl, tt); first = refl }
-EndWith-one (Syncs (Ok done)) = record { stop = (tt, tt); first = refl }
-EndWith-one (Syncs (Err error)) = record { stop = (refl, tt); first = refl }
+EndWith-one call = refl
 
 pub Serve-one : (call : Call) → Serve (request_of call ∷ []) (error_of (device_answer call)) (call ∷ [])
 Serve-one call = record { ends = EndWith-one call; rest = []; asked = refl; all = λ none. refl }
@@ -78,7 +72,7 @@ call_serves {call = call} given = one_call {call = call} (Serve (request_of call
 
 -- no call, and no error
 pub none_ends : {D : Type 0} (gives : D → Call → D → Type 0) (device : D) → MakesCalls gives device device (EndWith None)
-none_ends gives device = no_calls gives device (EndWith None) (record { stop = tt; first = refl })
+none_ends gives device = no_calls gives device (EndWith None) refl
 
 pub none_may_end : {D : Type 0} (gives : D → Call → D → Type 0) (device : D) → MakesCalls gives device device (MayEndWith None)
 none_may_end gives device = may_end (none_ends gives device)

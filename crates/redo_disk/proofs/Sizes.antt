@@ -1,9 +1,8 @@
 -- Calls keep the length of what a device means.
 use Rattle.std.proofs.Common.{ℕ, List, length, ap, ◌∙◌, arith, ⊎_elim}
-use Rattle.model_device.specs.Disk.{Disk}
-use Rattle.model_device.specs.{FailsWrite, written}
+use Rattle.model_device.specs.{Disk, FailsWrite, written}
 use Rattle.model_device.proofs.Overwritten.{length-overwritten}
-use Rattle.redo_disk.specs.Seen.{write_at}
+use Rattle.redo_disk.specs.Sight.{write_at}
 use Rattle.redo_disk.specs.Ranges.{HasSize, IsRange}
 
 pub HasSize-written : (size at : ℕ) (bytes : List ℕ) (disk : Disk) → IsRange size at (length bytes) → HasSize size disk → HasSize size (written disk (write_at at bytes))

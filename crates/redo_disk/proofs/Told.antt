@@ -1,8 +1,8 @@
 -- What a device tells after calls.
 use Rattle.std.proofs.Common.{◌≡◌, Option, Some, None, IfSome, refl, subst, sym}
 use Rattle.std.specs.Prelude.{Result, Ok, Err, OnErr}
-use Rattle.model_device.specs.Disk.{Disk}
-use Rattle.redo_disk.specs.Seen.{OnTold, StillTells, WhereTold}
+use Rattle.model_device.specs.{Disk}
+use Rattle.redo_disk.specs.Sight.{OnTold, StillTells, WhereTold}
 
 -- two calls, the second on what the first left
 pub OnTold-then : (old middle new : Option Disk) (R S T : Disk → Disk → Type 0) → ((a b c : Disk) → R a b → S b c → T a c) → OnTold old middle R → OnTold middle new S → OnTold old new T

@@ -1,5 +1,6 @@
--- The calls that code makes of a device, as a list in their order, and what is told of such a list.
-use Rattle.std.specs.Prelude.{ℕ, ◌≡◌, ◌+◌, List, [], ◌∷◌, ◌++◌, length, map, Option, Some, None, Result, Ok, Err, OnErr}
+-- The calls that code makes of a device, as a list in their order, what is told of such a list, and which of them were made.
+-- `gives` is what the device's own contract says of one call: the device before, the call, and the device after.
+use Rattle.std.specs.Prelude.{ℕ, ◌≡◌, ◌+◌, List, [], ◌∷◌, ◌++◌, length, map, Option, Some, None, Result, Ok, Err}
 use Rattle.model_device.specs.declared.write.Write.{Write}
 use Rattle.redo_disk.specs.declared.error.DevError.{DevError}
 
@@ -34,26 +35,12 @@ request_of (Reads at before answer after) = ToRead at (length before)
 request_of (Writes write answer) = ToWrite write
 request_of (Syncs answer) = ToSync
 
--- nothing follows a call that answered an error
-abbrev pub StopAtError : List Call → Type 0
-StopAtError [] = Unit {0}
-StopAtError (call ∷ calls) = OnErr (device_answer call) (calls ≡ []) × StopAtError calls
-
--- the first of two errors
-abbrev pub earlier_error : Option DevError → Option DevError → Option DevError
-earlier_error None later = later
-earlier_error (Some error) later = Some error
-
--- the first error that the calls answered
-abbrev pub first_error : List Call → Option DevError
-first_error [] = None
-first_error (call ∷ calls) = earlier_error (error_of (device_answer call)) (first_error calls)
-
 -- Every call but the last answered Ok, and the last, if it answered an error, answered this one. So code whose answer is
 -- this error neither forgot an error nor made one up, and did nothing after it.
-pub record EndWith (error : Option DevError) (calls : List Call) : Type 0 where
-  pub stop : StopAtError calls
-  pub first : first_error calls ≡ error
+abbrev pub EndWith : Option DevError → List Call → Type 0
+EndWith error [] = error ≡ None
+EndWith error (call ∷ []) = error_of (device_answer call) ≡ error
+EndWith error (call ∷ second ∷ calls) = (error_of (device_answer call) ≡ None) × EndWith error (second ∷ calls)
 
 -- The calls ask for these things in this order, for all of them or up to the one that answered this error.
 pub record Serve (requests : List Request) (error : Option DevError) (calls : List Call) : Type 0 where
@@ -66,3 +53,18 @@ pub record Serve (requests : List Request) (error : Option DevError) (calls : Li
 -- what makes a write survive every crash: the write, and a sync after it
 abbrev pub put_requests : Write → List Request
 put_requests write = ToWrite write ∷ ToSync ∷ []
+
+-- the device went from the one to the other by this call
+pub record MakesCall {D : Type 0} (gives : D → Call → D → Type 0) (old : D) (call : Call) (new : D) : Type 0 where
+  pub given : gives old call new
+
+-- the device went from the one to the other by exactly these calls, in their order
+abbrev pub Makes : {D : Type 0} → (D → Call → D → Type 0) → D → List Call → D → Type 0
+Makes gives old [] new = new ≡ old
+Makes {D = D} gives old (call ∷ calls) new = (middle : D) × MakesCall gives old call middle × Makes gives middle calls new
+
+-- the device went from the one to the other by calls that are so
+pub record MakesCalls {D : Type 0} (gives : D → Call → D → Type 0) (old new : D) (Are : List Call → Type 0) : Type 0 where
+  pub calls : List Call
+  pub made : Makes gives old calls new
+  pub are : Are calls

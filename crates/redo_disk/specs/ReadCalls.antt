@@ -3,7 +3,7 @@ use Rattle.std.specs.Prelude.{ℕ, ◌≡◌, ◌+◌, ◌⊎◌, List, [], ◌�
 use Rattle.std.specs.List.{AllByRecursion}
 use Rattle.redo_disk.specs.declared.error.DevError.{DevError}
 use Rattle.redo_disk.specs.declared.error.DevError.TheVariants.{Failed, NoMemory}
-use Rattle.redo_disk.specs.Calls.{Call, device_answer, EndWith, error_of, first_error, Reads, StopAtError, Syncs, Writes}
+use Rattle.redo_disk.specs.Calls.{Call, device_answer, EndWith, error_of, Reads, Syncs, Writes}
 
 -- the call is a read
 abbrev pub IsRead : Call → Type 0
@@ -37,9 +37,8 @@ changing_calls [] = 0
 changing_calls (call ∷ calls) = call_changes call + changing_calls calls
 
 -- The same of code that may run out of memory by itself: then the calls all answered Ok.
-pub record MayEndWith (error : Option DevError) (calls : List Call) : Type 0 where
-  pub stop : StopAtError calls
-  pub first : (first_error calls ≡ error) ⊎ (first_error calls ≡ None × error ≡ Some NoMemory)
+abbrev pub MayEndWith : Option DevError → List Call → Type 0
+MayEndWith error calls = EndWith error calls ⊎ (EndWith None calls × (error ≡ Some NoMemory))
 
 -- the calls are reads, and end so
 pub record ReadsEndWith (error : Option DevError) (calls : List Call) : Type 0 where

@@ -1,8 +1,7 @@
 // What holds of calls in a row. Each law is the contract of a function that does nothing.
 ghost use Rattle.std.specs.Prelude.{◌≡◌, ◌+◌, ◌++◌, List, Option, None};
-ghost use Rattle.redo_disk.specs.Calls.{Call, EndWith, Request, Serve};
+ghost use Rattle.redo_disk.specs.Calls.{Call, EndWith, Request, Serve, Makes};
 ghost use Rattle.redo_disk.specs.ReadCalls.{AreReads, MayEndWith, changing_calls, failed_calls, failures};
-ghost use Rattle.redo_disk.specs.Made.{Makes};
 ghost use Rattle.redo_disk.specs.declared.error.DevError.{DevError};
 
 use crate::Sectors;

@@ -2,9 +2,8 @@
 ghost use Rattle.std.specs.Prelude.{◌≡◌, length, OnOk, OnErr};
 ghost use Rattle.model_base.specs.{overwritten};
 ghost use Rattle.model_device.specs.{HasOneImage, IsPutOrNot, synced, written};
-ghost use Rattle.redo_disk.specs.Calls.{Serve, error_of, put_requests};
-ghost use Rattle.redo_disk.specs.Made.{MakesCalls};
-ghost use Rattle.redo_disk.specs.Seen.{HasCause, OnTold, write_at};
+ghost use Rattle.redo_disk.specs.Calls.{Serve, error_of, put_requests, MakesCalls};
+ghost use Rattle.redo_disk.specs.Sight.{HasCause, OnTold, write_at};
 ghost use Rattle.redo_disk.specs.Ranges.{IsRange};
 
 use crate::{DevError, Sectors};

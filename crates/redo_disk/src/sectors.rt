@@ -1,9 +1,8 @@
 // The calls of a device, and what they say of it.
 ghost use Rattle.std.specs.Prelude.{◌≡◌, ◌≢◌, ℕ, length, None, IfSome};
-ghost use Rattle.redo_disk.specs.Calls.{Call, Reads, Writes, Syncs};
-ghost use Rattle.redo_disk.specs.Made.{MakesCall};
-ghost use Rattle.redo_disk.specs.Seen.{Seen, ReadStep, WriteStep, SyncStep, CrashStep, write_at};
-ghost use Rattle.redo_disk.specs.Ranges.{IsRange, HasSize};
+ghost use Rattle.redo_disk.specs.Calls.{Call, Reads, Writes, Syncs, MakesCall};
+ghost use Rattle.redo_disk.specs.Sight.{Seen, ReadStep, WriteStep, SyncStep, write_at};
+ghost use Rattle.redo_disk.specs.Ranges.{CrashStep, IsRange, HasSize};
 
 use crate::DevError;
 

@@ -1,17 +1,14 @@
 -- Through each turn the archive archives the groups of the log so far.
-use Rattle.std.proofs.Common.{Bool, List, [], ap, append-nil, arith, inl, inr, refl, subst, sym}
-use Rattle.std.proofs.Common.{⊎_elim, ℕ, ◌++◌, ◌+◌, ◌∙◌, ◌∷◌, ◌≡◌, ◌≤◌, ◌⊎◌}
+use Rattle.std.proofs.Common.{Bool, List, [], ap, append-nil, arith, inl, inr, refl, subst, sym, ⊎_elim, ℕ, ◌++◌, ◌+◌, ◌∙◌, ◌∷◌, ◌≡◌, ◌≤◌, ◌⊎◌}
 use lib.ListN.{get_elem?}
 use native.Mathlib.Decide.{dec_le}
 use mathlib.Core.Option.{some, some-injective}
 use Rattle.model_base.specs.{HasRisen}
-use Rattle.model_core.specs.Actors as model
-use Rattle.model_core.specs.DataSide.{DataSide}
-use Rattle.model_core.specs.LogSide.{LogSide}
-use Rattle.model_core.specs.Turn.{Turn}
+use Rattle.model_core.specs.States as model
+use Rattle.model_core.specs.{DataSide, LogSide, Entry, filled, log_left, lsn, next, ReaderState}
+use Rattle.model_core.specs.Program.{Turn}
 use Rattle.model_core.specs.declared.ops.Answer.{Answer}
 use Rattle.model_core.specs.declared.ops.Step.{Step}
-use Rattle.model_core.specs.{Entry, filled, log_left, lsn, next, ReaderState}
 use Rattle.model_log.specs.{IsRunOf}
 use Rattle.model_log.specs.declared.group.Whole.{Whole}
 use Rattle.model_logcore.specs.LogLaws.{LogLaws}
@@ -27,16 +24,13 @@ use Rattle.model_running.specs.ReadHalf.{HasRunBlock, RunBlockAt}
 use Rattle.redo_archive.specs.Part.{Part, PartArchives}
 use Rattle.redo_archiver.proofs.Longer.{part-longer}
 use Rattle.redo_archiver.specs.{IsFullBlock, KeepsPace}
-use Rattle.redo_disk.specs.{Call}
-use Rattle.redo_disk.specs.Seen.{Seen}
+use Rattle.redo_disk.specs.{Call, Seen}
 use Rattle.redo_drive.proofs.ArchiveTurns.{flushed_in, one_reader, stands, step_appends, who_appends}
 use Rattle.redo_drive.proofs.CallsOn.{calls_then}
 use Rattle.redo_drive.proofs.TurnsOf.{runs_then, told_earlier}
 use Rattle.redo_drive.specs.Archiving.{Appends, HasCome, IsSameArchive}
 use Rattle.redo_drive.specs.Lists.{lists_of}
-use Rattle.redo_drive.specs.Playing.{HasSamePages, RunOf, run_data_side, run_log_side}
-use Rattle.redo_drive.specs.Running.{RunsWith}
-use Rattle.redo_drive.specs.Turning.{core_of}
+use Rattle.redo_drive.specs.Running.{HasSamePages, RunOf, run_data_side, run_log_side, RunsWith, core_of}
 use Rattle.redo_drive.specs.declared.parts.Parts.{Parts}
 
 -- a count that has risen since a later time has risen

@@ -1,12 +1,10 @@
 -- What a run leaves of its archive.
-use Rattle.std.proofs.Common.{Bool, List, None, Option, Some, [], ap, arith, refl, slice_index, subst, sym, true, ⊎_elim, ℕ}
-use Rattle.std.proofs.Common.{◌+◌, ◌∙◌, ◌≡◌, ◌≢◌, ◌≤◌}
+use Rattle.std.proofs.Common.{Bool, List, None, Option, Some, [], ap, arith, refl, slice_index, subst, sym, true, ⊎_elim, ℕ, ◌+◌, ◌∙◌, ◌≡◌, ◌≢◌, ◌≤◌}
 use lib.ListN.{get_elem?}
 use mathlib.Core.Option.{some, some-injective}
-use Rattle.model_core.specs.{archive_device_code, archives, Given, HasLost, lsn, ReaderState, SharedWords}
-use Rattle.model_core.specs.Actors as model
-use Rattle.model_core.specs.LogSide.{LogSide}
-use Rattle.model_device.specs.Disk.{Disk}
+use Rattle.model_core.specs.{archive_device_code, archives, Given, HasLost, lsn, ReaderState, SharedWords, LogSide}
+use Rattle.model_core.specs.States as model
+use Rattle.model_device.specs.{Disk}
 use Rattle.model_log.specs.{block_of, IsRunOf}
 use Rattle.model_log.specs.declared.layout.TheConstants.{BLOCK_HEADER}
 use Rattle.model_log.specs.declared.group.Whole.{Whole}
@@ -23,20 +21,17 @@ use Rattle.model_running.specs.ReadHalf.{ArchiverHas, HasByKind, ReadHalf, Reade
 use Rattle.model_script.specs.declared.script.ScriptLine.{ScriptLine}
 use Rattle.redo_archive.specs.Part.{Part, PartArchives}
 use Rattle.redo_archiver.specs.{append_code, IsToFinish}
-use Rattle.redo_disk.specs.{Call}
-use Rattle.redo_disk.specs.Seen.{Seen}
+use Rattle.redo_disk.specs.{Call, Seen}
 use Rattle.redo_disk.specs.declared.error.DevError.{DevError}
 use Rattle.redo_disk.specs.declared.error.DevError.TheVariants.{Failed, NoMemory}
 use Rattle.redo_drive.proofs.ArchiveTurns.{flushed_place, one_reader}
 use Rattle.redo_drive.proofs.LeftRun.{if_told, where_started}
-use Rattle.redo_drive.specs.Archived.{ArchivesRun, HasArchived}
-use Rattle.redo_drive.specs.Archiving.{AsksUpTo, HasCome, StandsBeside}
+use Rattle.redo_drive.specs.Archiving.{ArchivesRun, HasArchived, AsksUpTo, HasCome, StandsBeside}
 use Rattle.redo_drive.specs.Beginning.{HaveBegun}
-use Rattle.redo_drive.specs.Devices.{code_of}
+use Rattle.redo_drive.specs.Asking.{code_of}
 use Rattle.redo_drive.specs.Leaving.{LeavesWith}
-use Rattle.redo_drive.specs.Playing.{RunOf, run_log_side}
-use Rattle.redo_drive.specs.Running.{RunsWith}
-use Rattle.redo_drive.specs.Views.{views_of}
+use Rattle.redo_drive.specs.Running.{RunOf, run_log_side, RunsWith}
+use Rattle.redo_drive.specs.History.{views_of}
 use Rattle.redo_drive.specs.declared.actor.Actor.{Actor}
 use Rattle.redo_drive.specs.declared.device.Device.TheVariants.{Data, Log}
 use Rattle.redo_drive.specs.declared.drive.Driven.{Driven}

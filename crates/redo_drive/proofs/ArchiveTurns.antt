@@ -1,27 +1,22 @@
 -- Through each turn the archive stands beside the actors of its run.
-use Rattle.std.proofs.Common.{Bool, List, None, Option, Some, ap, arith, cond, false, refl, set, slice_index}
-use Rattle.std.proofs.Common.{subst, sym, true, ⊎_elim, ℕ, ◌+◌, ◌==◌, ◌∙◌, ◌≡◌, ◌≢◌, ◌≤◌, ◌⊎◌, is_some}
+use Rattle.std.proofs.Common.{Bool, List, None, Option, Some, ap, arith, cond, false, refl, set, slice_index, subst, sym, true, ⊎_elim, ℕ, ◌+◌, ◌==◌, ◌∙◌, ◌≡◌, ◌≢◌, ◌≤◌, ◌⊎◌, is_some}
 use native.Mathlib.Decide.{ℕ_discrete}
 use lib.ListN.{get_elem?}
 use mathlib.Core.Option.{some, some-injective}
 use Rattle.model_core.proofs.Later.{took_later}
 use Rattle.model_core.proofs.Lists.{set_at, set_else}
 use Rattle.model_core.proofs.Lsns.{lsn_le, lsn_offset}
-use Rattle.model_core.specs.Actors as model
-use Rattle.model_core.specs.DataSide.{DataSide}
-use Rattle.model_core.specs.LogSide.{LogSide}
-use Rattle.model_core.specs.Setup.{Setup}
+use Rattle.model_core.specs.States as model
+use Rattle.model_core.specs.{DataSide, LogSide, Setup, after_of, answer_of, archives, filled, flat, flushed_at, layout_of, Listed, LostAt, lsn, next, next_mark, old_of, reader_op, reader_program, ReaderState, shared_left, SharedWords, took, words_left}
 use Rattle.model_core.specs.ReaderProgram.{Filling, reader_filled}
-use Rattle.model_core.specs.Turn.{Turn}
+use Rattle.model_core.specs.Program.{Turn}
 use Rattle.model_core.specs.declared.ops.Answer.{Answer}
 use Rattle.model_core.specs.declared.ops.Op.TheVariants as op
 use Rattle.model_core.specs.declared.ops.Step.{Step}
 use Rattle.model_core.specs.declared.steps.ReaderStep.{ReaderStep}
 use Rattle.model_core.specs.declared.steps.ReaderStep.TheVariants as reader_step
 use Rattle.model_core.specs.declared.words.Word.TheVariants as word
-use Rattle.model_core.specs.{after_of, answer_of, archives, filled, flat, flushed_at, layout_of, Listed, LostAt, lsn, next, next_mark, old_of, reader_op, reader_program, ReaderState}
 use Rattle.model_core.specs.declared.words.Layout.{Layout}
-use Rattle.model_core.specs.{shared_left, SharedWords, took, words_left}
 use Rattle.model_ends.proofs.Sizes.{bytes_same, sn_within}
 use Rattle.model_ends.specs.Bound.{bytes_of, last_lsn}
 use Rattle.model_log.specs.{IsDataLsn}
@@ -37,18 +32,15 @@ use Rattle.model_running.specs.{IsNoAppend}
 use Rattle.model_running.specs.ReadHalf.{ReadsInRun}
 use Rattle.redo_archive.specs.Part.{Part}
 use Rattle.redo_archiver.proofs.Turning.{pace-turns}
-use Rattle.redo_archiver.specs.Archived.{appends_at, heard_at, RoundAt}
+use Rattle.redo_archiver.specs.Appending.{appends_at, heard_at, RoundAt}
 use Rattle.redo_archiver.specs.{AppendsNothing, HearsFlushed, KeepsPace, marks_after}
-use Rattle.redo_disk.specs.{Call}
-use Rattle.redo_disk.specs.Seen.{Seen}
+use Rattle.redo_disk.specs.{Call, Seen}
 use Rattle.redo_disk.specs.declared.error.DevError.{DevError}
 use Rattle.model_archive.specs.declared.marks.ArchMarks.{ArchMarks}
 use Rattle.redo_drive.proofs.TurnsOf.{IsKind, kept_kind, runs_then}
 use Rattle.redo_drive.specs.Archiving.{Appends, AsksUpTo, HasNoArchiver, StandsBeside}
 use Rattle.redo_drive.specs.Lists.{lists_of}
-use Rattle.redo_drive.specs.Playing.{HasSamePages, RunOf, run_data_side, run_log_side}
-use Rattle.redo_drive.specs.Running.{RunsWith}
-use Rattle.redo_drive.specs.Turning.{core_of}
+use Rattle.redo_drive.specs.Running.{HasSamePages, RunOf, run_data_side, run_log_side, RunsWith, core_of}
 use Rattle.redo_drive.specs.declared.parts.Parts.{Parts}
 
 -- FLUSHED is at most what is reserved, and the place of a byte

@@ -1,17 +1,16 @@
 -- What a write of the log and the writing of a batch asked of their devices, as the definition of a turn has what is lent.
 use Rattle.std.proofs.Common.{List, subst, sym, ℕ}
-use Rattle.model_core.specs.Actors as model
+use Rattle.model_core.specs.States as model
 use Rattle.model_core.specs.declared.ops.Op.TheVariants as op
 use Rattle.model_parts.specs.{batch_of, Fresh}
 use Rattle.redo_drive.proofs.Lent.{lent_batch}
 use Rattle.redo_disk.specs.{Call, MakesCalls, Serve}
 use Rattle.redo_drive.proofs.Served.{LendsBatch, LendsBlocks}
-use Rattle.redo_drive.specs.Asking.{lent_pages, lent_writes}
-use Rattle.redo_drive.specs.Playing.{HasWholePages}
-use Rattle.redo_drive.specs.Requests.{write_requests}
+use Rattle.redo_drive.specs.Asking.{lent_pages, lent_writes, write_requests}
+use Rattle.redo_drive.specs.Running.{HasWholePages}
 use Rattle.redo_logdev.specs.Part as log
 use Rattle.redo_store.specs.Part as store
-use Rattle.redo_store.specs.Requests.{batch_requests}
+use Rattle.redo_store.specs.Part.{batch_requests}
 
 pub batch_asked : {D : Type 0} (gives : D → Call → D → Type 0) (pages : List (ℕ × ℕ)) (frames : List ℕ) (d e : store.Part D) (l : model.Lent) → LendsBatch pages frames l → HasWholePages d.shape op.WriteBatch l
     → MakesCalls gives d.dev e.dev (Serve (batch_requests d.shape (batch_of d.shape pages frames)) e.failed) → MakesCalls gives d.dev e.dev (Serve (lent_pages d l) e.failed)

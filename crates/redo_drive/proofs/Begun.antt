@@ -6,7 +6,7 @@ use Rattle.model_base.specs.declared.shape.Shape.{Shape}
 use Rattle.model_base.specs.declared.limits.TheConstants.{START_LSN}
 use Rattle.model_parts.specs.{first_marks, first_tails, IsLive, IsUpTo, numbers_taken, read_as, start_of}
 use Rattle.model_parts.specs.Stored.{Stored}
-use Rattle.model_device.specs.Disk.{Disk}
+use Rattle.model_device.specs.{Disk}
 use Rattle.model_log.specs.declared.head.Format.{Format}
 use Rattle.model_log.specs.declared.head.Format.TheVariants.{One, Two, Three}
 use Rattle.model_running.specs.{kept_content}
@@ -17,10 +17,10 @@ use Rattle.model_page.specs.declared.content.Content.{Content}
 use Rattle.model_theorem.proofs.Start.{start-live}
 use Rattle.model_theorem.specs.{IsStart}
 use Rattle.model_script.specs.declared.script.ScriptLine.{ScriptLine}
-use Rattle.model_store.specs.Reading.{Reading}
+use Rattle.model_store.specs.{Reading}
 use Rattle.redo_drive.proofs.DataPartStarts.{opened_begins}
 use Rattle.redo_drive.specs.DataPartSide as data_part
-use Rattle.redo_disk.specs.Seen.{Seen}
+use Rattle.redo_disk.specs.{Seen}
 use Rattle.redo_logdev.specs.{DiskHolds}
 use Rattle.redo_logdev.specs.Part as log
 use Rattle.redo_drive.specs.LogPartSide as log_part

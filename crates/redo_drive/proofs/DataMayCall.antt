@@ -6,15 +6,14 @@ use mathlib.Core.Option.{some}
 use native.Mathlib.Decide.{dec_le, ℕ_discrete}
 use Rattle.model_base.specs.{IsWithinLimits}
 use Rattle.model_base.specs.declared.shape.Shape.{Shape}
-use Rattle.model_core.specs.{BatchPage, KeptPage}
-use Rattle.model_core.specs.Setup.{Setup}
+use Rattle.model_core.specs.{BatchPage, KeptPage, Setup}
 use Rattle.model_parts.proofs.Joined.{batch-at, length-batch_of}
 use Rattle.model_parts.specs.{Fresh, IsWritable}
 use Rattle.model_pagecore.specs.{CanBatch}
 use Rattle.redo_drive.proofs.Batches.{fresh_at, fresh_length}
 use Rattle.redo_drive.proofs.Outcome.{not_failed}
 use Rattle.redo_drive.specs.DataPartSide.{HoldsPages, IsBatchOf, data_side}
-use Rattle.redo_disk.specs.Seen.{Seen}
+use Rattle.redo_disk.specs.{Seen}
 use Rattle.redo_store.specs.Part.{Part}
 
 -- the page of the batch that a pair is of

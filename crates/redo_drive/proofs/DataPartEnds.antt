@@ -5,11 +5,10 @@ use Rattle.std.specs.Prelude.{IfSome, is_some}
 use lib.ListN.{get_elem?}
 use mathlib.Core.Option.{some}
 use Rattle.model_base.specs.declared.shape.Shape.{Shape}
-use Rattle.model_core.specs.{BatchPage, KeptPage}
-use Rattle.model_core.specs.Setup.{Setup}
+use Rattle.model_core.specs.{BatchPage, KeptPage, Setup}
 use Rattle.model_parts.specs.{Fresh, IsKnown, IsOldOrNew, IsUpTo, Keeps, KeepsPage}
 use Rattle.model_parts.specs.Stored.{Stored}
-use Rattle.model_device.specs.Disk.{Disk}
+use Rattle.model_device.specs.{Disk}
 use Rattle.model_running.specs.{ArePrefixes, content_in, contents_of, DataTells, HasItsPages, new_content}
 use Rattle.model_page.specs.declared.content.Content.{Content}
 use Rattle.model_pagecore.specs.{AreApart}
@@ -17,7 +16,7 @@ use Rattle.model_log.specs.declared.group.Whole.{Whole}
 use Rattle.model_theorem.proofs.Stored.{stored-holds}
 use Rattle.model_theorem.specs.{copy_of, DataHolds, IsEither, IsStored, Opened}
 use Rattle.redo_drive.specs.DataPartSide.{HoldsPages, data_side, fresh_batch, fresh_page}
-use Rattle.redo_disk.specs.Seen.{Seen}
+use Rattle.redo_disk.specs.{Seen}
 use Rattle.redo_store.specs.Part.{Part}
 
 -- the page that the device gets at that place

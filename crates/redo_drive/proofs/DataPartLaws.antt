@@ -2,9 +2,7 @@
 use Rattle.std.proofs.Common.{Err, List, None, Ok, Result, Some, [], ap, arith, cond, inl, inr, is_some, refl, subst, sym, true, ℕ, ◌==◌, ◌∙◌, ◌≡◌}
 use Rattle.std.specs.Prelude.{OnOk}
 use Rattle.model_base.specs.declared.shape.Shape.{Shape}
-use Rattle.model_core.specs.DataSide.{DataSide}
-use Rattle.model_core.specs.Setup.{Setup}
-use Rattle.model_core.specs.{BatchPage, IsDataCode, KeptPage}
+use Rattle.model_core.specs.{DataSide, Setup, BatchPage, IsDataCode, KeptPage}
 use Rattle.model_parts.specs.{after_batch, Fresh, IsLater, IsUpTo, Keeps}
 use Rattle.model_parts.specs.Stored.{Stored}
 use Rattle.model_running.specs.{contents_of}
@@ -15,11 +13,10 @@ use Rattle.redo_drive.proofs.Batches.{later, renewed_is}
 use Rattle.redo_drive.proofs.Devices.{code_is_small, failed_by, no_cause}
 use Rattle.redo_drive.proofs.Outcome.{not_failed}
 use Rattle.redo_drive.specs.DataPartSide.{DataWrote, HoldsPages, data_side, fresh_batch}
-use Rattle.redo_drive.specs.Devices.{call_code, code_of}
+use Rattle.redo_drive.specs.Asking.{call_code, code_of}
 use Rattle.redo_drive.specs.declared.device.Device.TheVariants.{Data}
 use Rattle.redo_disk.proofs.Told.{known-as}
-use Rattle.redo_disk.specs.{error_of}
-use Rattle.redo_disk.specs.Seen.{Seen}
+use Rattle.redo_disk.specs.{error_of, Seen}
 use Rattle.redo_disk.specs.declared.error.DevError.{DevError}
 use Rattle.redo_disk.specs.declared.error.DevError.TheVariants.{Failed, NoMemory}
 use Rattle.redo_store.specs.{PartKeeps, PartStep, PartStores}

@@ -3,16 +3,14 @@ use Rattle.std.proofs.Common.{None, Option, [], ap, arith, false, is_some, subst
 use Rattle.std.specs.Prelude.{IfSome}
 use Rattle.model_base.specs.{run_shape}
 use Rattle.model_base.specs.declared.shape.Shape.{Shape}
-use Rattle.model_core.specs.DataSide.{DataSide}
-use Rattle.model_core.specs.{KeptPage}
-use Rattle.model_core.specs.Setup.{Setup}
+use Rattle.model_core.specs.{DataSide, KeptPage, Setup}
 use Rattle.model_parts.specs.{IsUpTo, read_as}
 use Rattle.model_parts.specs.Stored.{Stored}
 use Rattle.model_running.specs.{contents_of}
 use Rattle.model_page.specs.declared.content.Content.{Content}
-use Rattle.model_store.specs.Reading.{Reading}
+use Rattle.model_store.specs.{Reading}
 use Rattle.redo_drive.specs.DataPartSide.{HasBegun, data_side}
-use Rattle.redo_disk.specs.Seen.{Seen}
+use Rattle.redo_disk.specs.{Seen}
 use Rattle.redo_disk.specs.declared.error.DevError.{DevError}
 use Rattle.redo_store.specs.{PartStores}
 use Rattle.redo_store.specs.Part.{Part}

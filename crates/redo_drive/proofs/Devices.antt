@@ -3,12 +3,11 @@ use Rattle.std.proofs.Common.{Err, None, Option, Result, Some, ap, arith, cond, 
 use native.Mathlib.Decide.{dec_le}
 use Rattle.model_base.specs.{HasRisen, last_count}
 use Rattle.model_core.specs.declared.ops.Answer.TheVariants as answer
-use Rattle.redo_disk.specs.{HasCause}
-use Rattle.redo_disk.specs.Seen.{Seen}
+use Rattle.redo_disk.specs.{HasCause, Seen}
 use Rattle.redo_disk.specs.declared.error.DevError.{DevError}
 use Rattle.redo_disk.specs.declared.error.DevError.TheVariants.{Failed, NoMemory}
-use Rattle.redo_drive.specs.Devices.{call_code, code_of}
-use Rattle.redo_drive.specs.Failures.{HasFailedBy, call_answer}
+use Rattle.redo_drive.specs.Asking.{call_code, code_of}
+use Rattle.redo_drive.specs.Calls.{HasFailedBy, call_answer}
 use Rattle.redo_drive.specs.declared.device.Device.{Device}
 use Rattle.redo_drive.specs.declared.device.Device.TheVariants.{Data, Log}
 

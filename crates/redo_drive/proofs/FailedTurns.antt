@@ -3,11 +3,8 @@ use Rattle.std.proofs.Common.{List, ap, subst, sym, ℕ, ◌<◌, ◌∙◌, ◌
 use Rattle.std.specs.Prelude.{slice_index}
 use lib.ListN.{get_elem?}
 use mathlib.Core.Option.{some}
-use Rattle.model_core.specs.{Actor, Core, filled, HasLost, took}
-use Rattle.model_core.specs.DataSide.{DataSide}
-use Rattle.model_core.specs.LogSide.{LogSide}
-use Rattle.model_core.specs.Setup.{Setup}
-use Rattle.model_core.specs.Turn.{Turn}
+use Rattle.model_core.specs.{Actor, Core, filled, HasLost, took, DataSide, LogSide, Setup}
+use Rattle.model_core.specs.Program.{Turn}
 use Rattle.model_core.specs.declared.ops.Answer.{Answer}
 use Rattle.model_core.specs.declared.ops.Step.{Step}
 use Rattle.model_core.specs.declared.ops.Step.TheVariants as step

@@ -1,13 +1,11 @@
 -- The code in FAILED has 32 bits.
 use Rattle.std.proofs.Common.{Bool, List, ap, arith, slice_index, ℕ, ⊎_elim, ◌<◌, ◌^◌, ◌≡◌}
 use native.Mathlib.Decide.{dec_le}
-use Rattle.model_core.specs.{Actor}
-use Rattle.model_core.specs.Layout.{failed_at}
+use Rattle.model_core.specs.{Actor, failed_at}
 use Rattle.model_running.proofs.Archiving.{lost_small}
-use Rattle.redo_disk.specs.Seen.{Seen}
+use Rattle.redo_disk.specs.{Seen}
 use Rattle.redo_drive.proofs.Devices.{code_is_small}
-use Rattle.redo_drive.specs.Playing.{RunOf}
-use Rattle.redo_drive.specs.Running.{RunsWith}
+use Rattle.redo_drive.specs.Running.{RunOf, RunsWith}
 use Rattle.redo_drive.specs.declared.device.Device.TheVariants.{Data, Log}
 use Rattle.redo_drive.specs.declared.parts.Parts.{Parts}
 

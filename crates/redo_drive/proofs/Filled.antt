@@ -1,13 +1,8 @@
 -- What a turn puts into an actor, and who asks for no read.
-use Rattle.std.proofs.Common.{Bool, List, None, Option, Some, [], ap, cond, false, inl, inr, refl, subst, sym, true}
-use Rattle.std.proofs.Common.{ℕ, ◌∙◌, ◌≡◌, ◌⊎◌}
-use Rattle.model_core.specs.Actors as model
-use Rattle.model_core.specs.AnswerFits.{AnswerFits}
+use Rattle.std.proofs.Common.{Bool, List, None, Option, Some, [], ap, cond, false, inl, inr, refl, subst, sym, true, ℕ, ◌∙◌, ◌≡◌, ◌⊎◌}
+use Rattle.model_core.specs.States as model
+use Rattle.model_core.specs.{AnswerFits, Advance, advance_op, checkpointer_op, CheckpointerState, cleaner_op, CleanerState, closer_op, CloserState, filled, Filling, flusher_op, FlusherState, Given, lent, next, old_of, reader_op, ReaderState, step_of, took, user_op, UserState, writer_op, WriterState}
 use Rattle.model_core.specs.ReaderProgram.{reader_filled, reader_fills}
-use Rattle.model_core.specs.{Advance, advance_op, checkpointer_op, CheckpointerState, cleaner_op, CleanerState}
-use Rattle.model_core.specs.{closer_op, CloserState, filled, Filling, flusher_op, FlusherState, Given, lent, next}
-use Rattle.model_core.specs.{old_of, reader_op, ReaderState, step_of, took, user_op, UserState, writer_op}
-use Rattle.model_core.specs.{WriterState}
 use Rattle.model_core.specs.declared.ops.Answer.{Answer}
 use Rattle.model_core.specs.declared.ops.Op.{Op}
 use Rattle.model_core.specs.declared.ops.Op.TheVariants as op
@@ -31,15 +26,14 @@ use Rattle.model_core.specs.declared.steps.WriterStep.TheVariants as writer_step
 use Rattle.model_core.specs.declared.words.LinkBuffer.{LinkBuffer}
 use Rattle.model_core.specs.declared.words.LinkBuffer.TheVariants as link_buffer
 use Rattle.model_core.specs.declared.words.Word.TheVariants as word
-use Rattle.redo_disk.specs.Seen.{Seen}
-use Rattle.redo_drive.specs.Playing.{IsPlayed, RunOf}
+use Rattle.redo_disk.specs.{Seen}
+use Rattle.redo_drive.specs.Running.{IsPlayed, RunOf, IsServed}
 use Rattle.redo_drive.specs.Receiving.{filling_of, follower_of, handed_by, HasGot, HasTaken, IsSameFollower, MarkFits}
-use Rattle.redo_drive.specs.Turning.{IsServed}
-use Rattle.redo_drive.specs.Views.{view_of}
+use Rattle.redo_drive.specs.History.{view_of}
 use Rattle.redo_drive.specs.declared.actor.Actor.{Actor}
 use Rattle.redo_drive.specs.declared.actor.Actor.TheVariants as own
 use Rattle.redo_drive.specs.declared.parts.Parts.{Parts}
-use Rattle.redo_follow.specs.Handing.{follower_fits}
+use Rattle.redo_follow.specs.{follower_fits}
 use Rattle.redo_follow.specs.Following.{Following}
 use Rattle.redo_follow.specs.Lending.{with_block}
 use Rattle.redo_archiver.specs.Lending as archiving

@@ -1,7 +1,5 @@
 -- The followers among the actors of a run, at its start and pair by pair; and a run's groups as a receiver gets them.
-use Rattle.std.proofs.Common.{Bool, List, None, Option, Some, [], ap, arith, cond, drop, false, length}
-use Rattle.std.proofs.Common.{length-append, map, refl, subst, suc, sym, take, true, zero, ℕ}
-use Rattle.std.proofs.Common.{◌++◌, ◌+◌, ◌-◌, ◌∙◌, ◌∷◌, ◌≡◌}
+use Rattle.std.proofs.Common.{Bool, List, None, Option, Some, [], ap, arith, cond, drop, false, length, length-append, map, refl, subst, suc, sym, take, true, zero, ℕ, ◌++◌, ◌+◌, ◌-◌, ◌∙◌, ◌∷◌, ◌≡◌}
 use Rattle.std.proofs.lemmas.Bool.Decides.{nat_tests}
 use Rattle.std.proofs.lemmas.List.{take-append-drop, take-map, take_at}
 use Rattle.std.specs.List.{AllZip}
@@ -12,8 +10,7 @@ use native.Mathlib.Decide.{dec_le}
 use Rattle.model_base.specs.declared.shape.Shape.{Shape}
 use Rattle.model_core.proofs.Lsns.{lsn_le, lsn_less}
 use Rattle.model_core.specs.{end_of, Given, lsn, UserState}
-use Rattle.model_core.specs.Actors as model
-use Rattle.model_core.specs.Groups as core
+use Rattle.model_core.specs.States as model
 use Rattle.model_running.specs.Histories.{AreWholesOf, IsWholeOf, log_span}
 use Rattle.model_running.specs.ReadHalf.{groups_upto}
 use Rattle.model_running.specs.ReadHalf as read_half
@@ -21,13 +18,13 @@ use Rattle.model_log.specs.{Span, span_of}
 use Rattle.model_log.specs.declared.group.Whole.{Whole}
 use Rattle.model_script.specs.declared.script.ScriptLine.{ScriptLine}
 use Rattle.redo_drive.specs.Followed.{given_of, given_upto}
-use Rattle.redo_drive.specs.Making.{EndsWithReaders}
+use Rattle.redo_drive.specs.Begins.{EndsWithReaders}
 use Rattle.redo_drive.specs.Receiving.{follower_of}
-use Rattle.redo_drive.specs.Setups.{followers_from, other_actors, page_actors, readers_of, seated_actors, seated_before}
-use Rattle.redo_drive.specs.Setups.{users_of}
+use Rattle.redo_drive.specs.Setups.{followers_from, other_actors, page_actors, readers_of, seated_actors, users_of}
+use Rattle.redo_drive.specs.LiveActors.{seated_before}
 use Rattle.redo_follow.specs.Following.{Following}
 use Rattle.redo_drive.proofs.Viewed.{length_views}
-use Rattle.redo_drive.specs.Views.{followers_in, view_of, views_of}
+use Rattle.redo_drive.specs.History.{followers_in, view_of, views_of}
 use Rattle.redo_drive.specs.declared.actor.Actor.{Actor}
 use Rattle.redo_drive.specs.declared.actor.Actor.TheVariants as own
 use Rattle.redo_drive.specs.declared.seating.TheConstants.{FIRST_FOLLOWER}
@@ -44,7 +41,7 @@ module _ (x : ℕ) where
         let b : nat_le (lsn end) (lsn x) ≡ false = grind (arith, nat_tests) in a ∙ sym b)
   ]
 
-  same_given : (e : core.Entry) (whole : Whole) → IsWholeOf e whole
+  same_given : (e : model.Entry) (whole : Whole) → IsWholeOf e whole
       → ◌≡◌ {A = Given} (read_half.given_of e) (given_of whole)
   same_given e whole is =
       let place : ◌≡◌ {A = Span} (span_of whole) (log_span e) = is.place in
@@ -53,7 +50,7 @@ module _ (x : ℕ) where
       let text = is.text in
       λ i. record { start = sym start i; end = sym end i; text = sym text i }
 
-  pub groups_are : (log : List core.Entry) (wholes : List Whole) → AreWholesOf log wholes
+  pub groups_are : (log : List model.Entry) (wholes : List Whole) → AreWholesOf log wholes
       → ◌≡◌ {A = List Given} (groups_upto x log) (given_upto (lsn x) wholes)
   groups_are [] [] are = refl
   groups_are [] (whole ∷ wholes) are = absurd are

@@ -1,8 +1,6 @@
 -- What a run leaves, however its Ops were interleaved, is a run of its script, and, where its devices tell and the store was ready, both hold it; where
 -- all users have ended it is a closed one.
-use Rattle.std.proofs.Common.{Bool, List, None, Option, Some, [], ap, arith, cond, false, inl, inr, length}
-use Rattle.std.proofs.Common.{refl, slice_get, subst, sym, true, ⊎_elim, ℕ}
-use Rattle.std.proofs.Common.{◌+◌, ◌<◌, ◌∙◌, ◌≡◌, ◌≢◌, ◌≤◌}
+use Rattle.std.proofs.Common.{Bool, List, None, Option, Some, [], ap, arith, cond, false, inl, inr, length, refl, slice_get, subst, sym, true, ⊎_elim, ℕ, ◌+◌, ◌<◌, ◌∙◌, ◌≡◌, ◌≢◌, ◌≤◌}
 use Rattle.std.proofs.lemmas.Bool.{ne_eqb}
 use Rattle.std.specs.List.{AllZip}
 use Rattle.std.specs.Prelude.{IfSome}
@@ -10,19 +8,15 @@ use lib.ListN.{get_elem?}
 use mathlib.Core.Option.{some}
 use Rattle.model_base.specs.{run_shape}
 use Rattle.model_base.specs.declared.shape.Shape.{Shape}
-use Rattle.model_core.specs.DataSide.{DataSide}
-use Rattle.model_core.specs.LogSide.{LogSide}
+use Rattle.model_core.specs.{DataSide, LogSide, archives, Given, HasLost, lsn, ReaderState, SharedWords}
 use Rattle.model_core.proofs.Lsns.{lsn_le}
-use Rattle.model_core.specs.{archives, Given, HasLost, lsn, ReaderState, SharedWords}
-use Rattle.model_core.specs.Actors as model
-use Rattle.model_device.specs.{synced}
-use Rattle.model_device.specs.Disk.{Disk}
+use Rattle.model_core.specs.States as model
+use Rattle.model_device.specs.{synced, Disk}
 use Rattle.model_running.proofs.Archiving.{none_loses}
 use Rattle.model_running.proofs.ClosedStore.{held_run}
 use Rattle.model_running.proofs.Finished.{finished_groups, finished_losses, finished_run, marks_same}
 use Rattle.model_running.proofs.Places.{bound_spans, history_spans}
-use Rattle.model_running.specs.Histories.{AreWholesOf}
-use Rattle.model_running.specs.Histories.{log_spans}
+use Rattle.model_running.specs.Histories.{AreWholesOf, log_spans}
 use Rattle.model_running.specs.ReadHalf.{FollowerHas, groups_upto, HasByKind, ReaderHas, ReadHalf}
 use Rattle.model_logcore.specs.{LogGhost}
 use Rattle.model_running.proofs.FinishedPages.{finished_pages}
@@ -39,13 +33,12 @@ use Rattle.model_theorem.proofs.Start.{start-given}
 use Rattle.model_theorem.specs.{IsHeld, IsRun, IsStart, LosesOnlyByFailure, opened_as}
 use Rattle.model_script.specs.declared.script.ScriptLine.{ScriptLine}
 use Rattle.model_parts.specs.{numbers_taken}
-use Rattle.model_store.specs.Reading.{Reading}
-use Rattle.model_theorem.specs.Values as theorem
+use Rattle.model_store.specs.{Reading}
+use Rattle.model_theorem.specs.Run as theorem
 use Rattle.redo_drive.proofs.DataPartEnds.{data_tells}
 use Rattle.redo_drive.specs.DataPartSide as data_part
 use Rattle.redo_archiver.specs.{append_code}
-use Rattle.redo_disk.specs.{Call, failures}
-use Rattle.redo_disk.specs.Seen.{Seen}
+use Rattle.redo_disk.specs.{Call, failures, Seen}
 use Rattle.redo_disk.specs.declared.error.DevError.{DevError}
 use Rattle.redo_disk.specs.declared.error.DevError.TheVariants.{Failed, NoMemory}
 use Rattle.redo_logdev.specs.Part as log
@@ -58,16 +51,14 @@ use Rattle.redo_drive.specs.Calls.{CallsOn}
 use Rattle.redo_drive.specs.Drive.{ComesToRun, HasMemory, HasMetError, HoldsRun, IsOwedSynced, Owes, closed_run, failed_in}
 use Rattle.redo_drive.specs.Followed.{given_upto, HasFollowed, HasSameNumber, HaveFollowed}
 use Rattle.redo_drive.specs.Leaving.{LeavesAs}
-use Rattle.redo_drive.specs.Making.{EndsWithReaders}
-use Rattle.redo_drive.specs.Playing.{RunOf, run_data_side, run_log_side}
+use Rattle.redo_drive.specs.Begins.{EndsWithReaders}
+use Rattle.redo_drive.specs.Running.{RunOf, run_data_side, run_log_side, groups_of, core_of}
 use Rattle.redo_drive.specs.Receiving.{follower_of, IsSameFollower}
-use Rattle.redo_drive.specs.Running.{groups_of}
 use Rattle.redo_drive.specs.Setups.{first_reader, seated_actors}
-use Rattle.redo_drive.specs.Turning.{core_of}
-use Rattle.redo_follow.specs.Handing.{StandsFor}
+use Rattle.redo_follow.specs.{StandsFor}
 use Rattle.redo_follow.specs.Following.{Following}
 use Rattle.redo_drive.proofs.Viewed.{views_at}
-use Rattle.redo_drive.specs.Views.{followers_in, views_of}
+use Rattle.redo_drive.specs.History.{followers_in, views_of}
 use Rattle.redo_drive.specs.declared.actor.Actor.{Actor}
 use Rattle.redo_drive.specs.declared.actor.Actor.TheVariants as own
 use Rattle.redo_drive.specs.declared.drive.Driven.{Driven}

@@ -5,9 +5,8 @@ use Rattle.std.proofs.lemmas.List.Concat.{flat_map-cons}
 use Rattle.model_core.specs.{UserState}
 use Rattle.model_report.specs.declared.entry.Entry.{Entry}
 use Rattle.model_report.specs.declared.entry.Marks.{Marks}
-use Rattle.redo_drive.specs.History.{all_listed, listed, listed_from}
+use Rattle.redo_drive.specs.History.{all_listed, listed, listed_from, view_of, views_of}
 use Rattle.redo_drive.specs.Reserved.{listed_group}
-use Rattle.redo_drive.specs.Views.{view_of, views_of}
 use Rattle.redo_drive.specs.declared.actor.Actor.{Actor}
 
 -- what is there, before what is still to come

@@ -1,12 +1,11 @@
 -- The run of a script, and a live run, can begin; what memory was taken for begins so.
-use Rattle.std.proofs.Common.{Bool, Err, List, Ok, Result, [], ap, arith, false, length, map, subst, sym, true, ℕ}
-use Rattle.std.proofs.Common.{◌+◌, ◌<◌, ◌∙◌, ◌≡◌, ◌≤◌}
+use Rattle.std.proofs.Common.{Bool, Err, List, Ok, Result, [], ap, arith, false, length, map, subst, sym, true, ℕ, ◌+◌, ◌<◌, ◌∙◌, ◌≡◌, ◌≤◌}
 use Rattle.std.specs.Prelude.{IfOk}
 use lib.ListN.{get_elem?}
 use mathlib.Core.Option.{some, some-ne-none}
 use Rattle.model_base.specs.declared.limits.TheConstants.{LSN_LIMIT}
 use Rattle.model_core.specs.{lsn}
-use Rattle.model_core.specs.Actors as actor
+use Rattle.model_core.specs.States as actor
 use Rattle.model_core.specs.declared.limits.TheConstants.{READERS}
 use Rattle.model_log.specs.{run_layout, sn_of}
 use Rattle.model_logcore.specs.{left_to_reserve, sum_over_actors}
@@ -15,7 +14,7 @@ use Rattle.redo_drive.proofs.FirstUsers.{are_idle, idle_seat, script_users, seat
 use Rattle.redo_drive.proofs.RunStarts.{CanBegin, lsn_at_start}
 use Rattle.redo_drive.proofs.ScriptRoom.{live_reserve, room_for_all}
 use Rattle.redo_drive.specs.LiveActors.{idle_users, live_actors}
-use Rattle.redo_drive.specs.Making.{begun_on, BeginsSo}
+use Rattle.redo_drive.specs.Begins.{begun_on, BeginsSo}
 use Rattle.redo_drive.specs.Setups.{users_of}
 use Rattle.redo_drive.specs.Startable.{AreNewFollowers, MayBegin}
 use Rattle.redo_drive.specs.declared.making.Beginning.{Beginning}

@@ -4,8 +4,7 @@ use lib.ListN.{get_elem?}
 use mathlib.Core.Option.{some}
 use native.Mathlib.Decide.{ℕ_discrete}
 use Rattle.model_base.specs.declared.shape.Shape.{Shape}
-use Rattle.model_core.specs.{Entry}
-use Rattle.model_core.specs.Setup.{Setup}
+use Rattle.model_core.specs.{Entry, Setup}
 use Rattle.model_running.specs.{IsOfScript}
 use Rattle.model_report.specs.{lines_of_user}
 use Rattle.model_logcore.proofs.UserGroups.{none_of, one_of}

@@ -10,7 +10,7 @@ use Rattle.model_log.specs.declared.layout.TheConstants.{BLOCK_DATA}
 use Rattle.model_logcore.specs.{CanCheckpoint, CanWrite}
 use Rattle.model_parts.specs.{MayBeNext}
 use Rattle.redo_block.specs.{AreFirsts}
-use Rattle.redo_disk.specs.Seen.{Seen}
+use Rattle.redo_disk.specs.{Seen}
 use Rattle.redo_logdev.specs.{MayWrite}
 use Rattle.redo_logdev.specs.Part.{Part}
 use Rattle.redo_drive.proofs.Outcome.{not_failed}

@@ -2,12 +2,11 @@
 use Rattle.std.proofs.Common.{Option, Some, refl, subst, ℕ, ◌≡◌}
 use Rattle.std.specs.Prelude.{IfSome}
 use Rattle.model_base.specs.declared.shape.Shape.{Shape}
-use Rattle.model_core.specs.{lsn}
-use Rattle.model_core.specs.Setup.{Setup}
-use Rattle.model_device.specs.Disk.{Disk}
+use Rattle.model_core.specs.{lsn, Setup}
+use Rattle.model_device.specs.{Disk}
 use Rattle.model_running.specs.{LogTells}
 use Rattle.model_parts.specs.{LogHoldsWith}
-use Rattle.redo_disk.specs.Seen.{Seen}
+use Rattle.redo_disk.specs.{Seen}
 use Rattle.redo_logdev.specs.{DiskHolds}
 use Rattle.redo_logdev.specs.Part.{Part}
 use Rattle.redo_drive.specs.LogPartSide.{log_side}

@@ -2,10 +2,9 @@
 use Rattle.std.proofs.Common.{Bool, Err, List, [], None, Ok, Option, Some, ap, arith, cond, false, inl, inr, length, refl, subst, sym, true, ℕ, ◌%◌, ◌++◌, ◌+◌, ◌/◌, ◌<◌, ◌==◌, ◌^◌, ◌∙◌, ◌∷◌, ◌≡◌, ◌≤◌, is_some}
 use Rattle.std.specs.Prelude.{IfSome, OnOk, Result}
 use Rattle.model_base.specs.declared.shape.Shape.{Shape}
-use Rattle.model_core.specs.{Entry, IsLogCode, lsn, Tiles}
-use Rattle.model_core.specs.LogSide.{LogSide}
+use Rattle.model_core.specs.{Entry, IsLogCode, lsn, Tiles, LogSide}
 use Rattle.model_core.proofs.Lsns.{lsn_less}
-use Rattle.model_device.specs.Disk.{Disk}
+use Rattle.model_device.specs.{Disk}
 use Rattle.model_running.proofs.Given.{given_to}
 use Rattle.model_running.proofs.BlockGives.{has_block, wholes_there}
 use Rattle.model_running.proofs.Groups.{groups_snoc, has_length, places, run_of_log, spans_end}
@@ -19,17 +18,17 @@ use Rattle.model_parts.specs.declared.marks.LogMarks.{LogMarks}
 use Rattle.model_log.specs.declared.group.Whole.{Whole}
 use Rattle.model_base.specs.declared.limits.TheConstants.{BLOCK_SIZE}
 use Rattle.model_log.specs.declared.layout.TheConstants.{BLOCK_DATA, BLOCK_HEADER}
-use Rattle.redo_disk.specs.Seen.{Seen}
+use Rattle.redo_disk.specs.{Seen}
 use Rattle.redo_logdev.specs.{DiskHolds, HoldsBlock, PartHolds, Stays}
 use Rattle.redo_logdev.specs.Part.{Part}
 use Rattle.redo_drive.proofs.Outcome.{not_failed, outcome, pick}
 use Rattle.redo_disk.specs.declared.error.DevError.{DevError}
 use Rattle.redo_disk.specs.declared.error.DevError.TheVariants.{Failed, NoMemory}
 use Rattle.redo_drive.proofs.Devices.{no_cause}
-use Rattle.redo_drive.specs.Devices.{call_code, code_of}
+use Rattle.redo_drive.specs.Asking.{call_code, code_of}
 use Rattle.redo_drive.specs.LogPartSide.{HasFewCheckpoints, HoldsLog, LogCheckpointed, LogRead, LogSynced, LogWrote, log_side}
 use Rattle.redo_drive.specs.declared.device.Device.TheVariants.{Log}
-use Rattle.model_log.specs.Run as run
+use Rattle.model_log.specs.Group as run
 
 told_so : {P Q : Disk → Type 0} (tells : Option Disk) → ((disk : Disk) → P disk → Q disk) → IfSome tells P → IfSome tells Q
 told_so None so h = tt

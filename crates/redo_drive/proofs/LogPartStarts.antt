@@ -1,15 +1,14 @@
 -- What holds of the log part when a run starts.
 use Rattle.std.proofs.Common.{List, [], None, ap, arith, refl, subst, sym, ℕ, ◌%◌, ◌-◌, ◌<◌, ◌^◌, ◌∙◌, ◌∷◌, ◌≡◌}
 use Rattle.model_core.proofs.Lsns.{lsn_offset}
-use Rattle.model_core.specs.{lsn}
-use Rattle.model_core.specs.Setup.{Setup}
+use Rattle.model_core.specs.{lsn, Setup}
 use Rattle.model_running.specs.{AreWholesOf}
 use Rattle.model_logcore.specs.{StartPart}
 use Rattle.model_parts.specs.{first_marks}
 use Rattle.model_parts.specs.declared.marks.LogMarks.{LogMarks}
 use Rattle.model_log.specs.declared.group.Whole.{Whole}
 use Rattle.model_log.specs.declared.layout.TheConstants.{BLOCK_DATA}
-use Rattle.redo_disk.specs.Seen.{Seen}
+use Rattle.redo_disk.specs.{Seen}
 use Rattle.redo_logdev.specs.{PartHolds}
 use Rattle.redo_logdev.specs.Part.{Part}
 use Rattle.redo_drive.specs.LogPartSide.{HasBegun, log_side}

@@ -7,14 +7,9 @@ use Rattle.model_core.proofs.Lsns.{lsn_le}
 use Rattle.model_base.specs.{IsWithinLimits}
 use Rattle.model_base.specs.declared.limits.TheConstants.{BLOCK_SIZE, START_LSN}
 use Rattle.model_base.specs.declared.shape.Shape.{Shape}
-use Rattle.model_core.specs.Actors as model
-use Rattle.model_core.specs.AnswerFits.{AnswerFits}
-use Rattle.model_core.specs.DataSide.{DataSide}
+use Rattle.model_core.specs.States as model
 use Rattle.model_core.specs.Fitting.{Fitting}
-use Rattle.model_core.specs.{answer_of, BatchPage, flat, KeptPage, layout_of, lent, Listed, lsn, next, old_of, OpWords, shared_answer}
-use Rattle.model_core.specs.{SharedWords, user_fits, user_op, UserState}
-use Rattle.model_core.specs.LogSide.{LogSide}
-use Rattle.model_core.specs.Setup.{Setup}
+use Rattle.model_core.specs.{AnswerFits, DataSide, LogSide, answer_of, BatchPage, flat, KeptPage, layout_of, lent, Listed, lsn, next, old_of, OpWords, shared_answer, SharedWords, user_fits, user_op, UserState, reader_op, ReaderState, Setup}
 use Rattle.model_core.specs.declared.ops.Answer.{Answer}
 use Rattle.model_core.specs.declared.ops.Op.{Op}
 use Rattle.model_core.specs.declared.ops.Op.TheVariants as op
@@ -30,20 +25,19 @@ use Rattle.model_running.proofs.BothReady as both_ready
 use Rattle.model_running.proofs.FlatWords.{flat_answer}
 use Rattle.model_running.proofs.InRun.{next_in_run}
 use Rattle.model_running.specs.ReadHalf.{ReadsInRun, StaysInRun}
-use Rattle.model_core.specs.{reader_op, ReaderState}
 use Rattle.model_core.specs.declared.words.Layout.{Layout}
 use Rattle.model_core.specs.declared.steps.ReaderStep.{ReaderStep}
 use Rattle.model_core.specs.declared.steps.ReaderStep.TheVariants as reader_step
 use Rattle.model_running.proofs.ListsReady.{list_ready}
 use Rattle.model_running.proofs.Turns.{next_words}
 use Rattle.model_running.specs.{HaveSmallCodes, IsNoAppend}
-use Rattle.model_running.specs.DataReady as running
-use Rattle.model_running.specs.ListReady.{ListReady}
+use Rattle.model_running.specs.Ready as running
+use Rattle.model_running.specs.Ready.{ListReady}
 use Rattle.redo_drive.proofs.Lent.{lent_batch}
 use Rattle.redo_drive.proofs.DataMayCall.{may_write_batch}
 use Rattle.redo_drive.proofs.Devices.{code_is_small}
 use Rattle.redo_drive.specs.DataPartSide as data_part
-use Rattle.redo_disk.specs.Seen.{Seen}
+use Rattle.redo_disk.specs.{Seen}
 use Rattle.redo_logdev.specs.{MayWrite}
 use Rattle.redo_logdev.specs.Part as log
 use Rattle.redo_drive.proofs.LogMayCall.{may_checkpoint, may_sync, may_write}
@@ -51,13 +45,11 @@ use Rattle.redo_drive.proofs.Filled.{IsNoRead, reader_or_no_read}
 use Rattle.redo_drive.proofs.Outcome.{not_failed}
 use Rattle.redo_drive.specs.LogPartSide as log_part
 use Rattle.redo_drive.specs.Lists.{lists_of}
-use Rattle.redo_drive.specs.Playing.{DataReady, HasWholePages, IsPlayable, LogReady, MayBatchLent, MayWriteLent, RunOf, run_data_side, run_log_side}
+use Rattle.redo_drive.specs.Running.{DataReady, HasWholePages, IsPlayable, LogReady, MayBatchLent, MayWriteLent, RunOf, run_data_side, run_log_side, RunsWith, MayServe}
 use Rattle.redo_drive.specs.Receiving.{MarkFits}
-use Rattle.redo_drive.specs.Running.{RunsWith}
-use Rattle.redo_drive.specs.Turning.{MayServe}
 use Rattle.redo_drive.specs.declared.device.Device.TheVariants.{Data, Log}
 use Rattle.redo_drive.specs.declared.parts.Parts.{Parts}
-use Rattle.redo_follow.specs.Handing.{follower_fits}
+use Rattle.redo_follow.specs.{follower_fits}
 use Rattle.redo_store.specs.Part as store
 use Rattle.redo_words.specs.{HoldsSum, Lends}
 use Rattle.redo_words.specs.declared.lent.Lent.{Lent}

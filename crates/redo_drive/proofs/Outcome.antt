@@ -3,16 +3,14 @@ use Rattle.std.proofs.Common.{Bool, Err, None, Ok, Option, Result, Some, ap, ari
 use Rattle.std.specs.Prelude.{OnErr, OnOk}
 use Rattle.model_parts.specs.declared.marks.LogMarks.{LogMarks}
 use Rattle.model_parts.specs.declared.marks.TailMarks.{TailMarks}
-use Rattle.redo_disk.specs.{error_of}
-use Rattle.redo_disk.specs.Seen.{Seen}
+use Rattle.redo_disk.specs.{error_of, Seen}
 use Rattle.redo_disk.specs.declared.error.DevError.{DevError}
 use Rattle.redo_disk.specs.declared.error.DevError.TheVariants.{Failed, NoMemory}
 use Rattle.redo_logdev.specs.{Stays}
 use Rattle.redo_logdev.specs.Part.{Part}
 use Rattle.redo_drive.proofs.Devices.{failed_by}
-use Rattle.redo_drive.specs.Devices.{call_code}
-use Rattle.redo_drive.specs.Failures.{HasFailedBy}
-use Rattle.redo_drive.specs.TurnSides.{LogCalled}
+use Rattle.redo_drive.specs.Asking.{call_code, LogCalled}
+use Rattle.redo_drive.specs.Calls.{HasFailedBy}
 use Rattle.redo_drive.specs.declared.device.Device.TheVariants.{Log}
 
 pub not_failed : (failed : Option DevError) → is_some failed ≡ false → failed ≡ None

@@ -1,19 +1,18 @@
 -- That an Op was played, for each kind of Op.
 use Rattle.std.proofs.Common.{None, ap, refl, subst, sym, ℕ, ◌%◌, ◌∙◌, ◌≡◌, is_some}
 use Rattle.std.specs.Prelude.{slice_set}
-use Rattle.model_core.specs.Actors as model
-use Rattle.model_core.specs.DataSide.{DataSide}
-use Rattle.model_core.specs.{answer_of, DataServed, list_answer, list_word, lists_left, LogServed, OnWord, word_found, words_after, words_left}
+use Rattle.model_core.specs.States as model
+use Rattle.model_core.specs.{DataSide, answer_of, DataServed, list_answer, list_word, lists_left, LogServed, OnWord, word_found, words_after, words_left}
 use Rattle.model_core.specs.declared.ops.Answer.{Answer}
 use Rattle.model_core.specs.declared.ops.Answer.TheVariants as answer
 use Rattle.model_core.specs.declared.ops.Op.{Op}
 use Rattle.model_core.specs.declared.ops.Op.TheVariants as op
-use Rattle.redo_disk.specs.Seen.{Seen}
+use Rattle.redo_disk.specs.{Seen}
 use Rattle.redo_drive.proofs.Devices.{answer_by_code}
-use Rattle.redo_drive.specs.Devices.{call_code}
-use Rattle.redo_drive.specs.Failures.{call_answer}
+use Rattle.redo_drive.specs.Asking.{call_code}
+use Rattle.redo_drive.specs.Calls.{call_answer}
 use Rattle.redo_drive.specs.Lists.{Listings, lists_of}
-use Rattle.redo_drive.specs.Playing.{HasSameDevices, IsPlayed, RunOf, run_data_side, run_log_side, told_by}
+use Rattle.redo_drive.specs.Running.{HasSameDevices, IsPlayed, RunOf, run_data_side, run_log_side, told_by}
 use Rattle.redo_drive.specs.declared.device.Device.TheVariants.{Data, Log}
 use Rattle.redo_drive.specs.declared.parts.Parts.{Parts}
 use Rattle.redo_words.specs.Plain.{Plain}

@@ -2,8 +2,7 @@
 -- on.
 use Rattle.std.proofs.Common.{List, ap, arith, inl, refl, subst, ℕ, ◌∙◌, ◌≡◌, Some}
 use Rattle.model_base.specs.declared.shape.Shape.{Shape}
-use Rattle.model_device.specs.{synced}
-use Rattle.model_device.specs.Disk.{Disk}
+use Rattle.model_device.specs.{synced, Disk}
 use Rattle.model_log.proofs.Several.{one_group}
 use Rattle.model_log.specs.{newest_checkpoint, run_layout, run_format}
 use Rattle.model_log.specs.declared.group.Whole.{Whole}
@@ -17,8 +16,7 @@ use Rattle.model_parts.specs.declared.marks.TailMarks.{TailMarks}
 use Rattle.model_store.proofs.OneReading.{same_head}
 use Rattle.model_store.proofs.OneScan.{same_scan}
 use Rattle.model_store.proofs.Places.{same_some}
-use Rattle.model_store.specs.{HasScan, IsFairLog, IsReading, IsScan, taken}
-use Rattle.model_store.specs.Reading.{Reading}
+use Rattle.model_store.specs.{HasScan, IsFairLog, IsReading, IsScan, taken, Reading}
 
 -- what a synced device has is a fair image of it
 synced_fair : (disk : Disk) → IsFairLog (synced disk) disk.reads

@@ -1,22 +1,17 @@
 -- Where no actor holds anything and FAILED is 0, the words WRITE and CKPT are the marks of the log part.
-use Rattle.std.proofs.Common.{Bool, List, None, [], ap, arith, false, length, map, refl, subst, suc, sym, true, ℕ}
-use Rattle.std.proofs.Common.{◌%◌, ◌++◌, ◌+◌, ◌-◌, ◌∙◌, ◌∷◌, ◌≡◌, ◌≤◌}
+use Rattle.std.proofs.Common.{Bool, List, None, [], ap, arith, false, length, map, refl, subst, suc, sym, true, ℕ, ◌%◌, ◌++◌, ◌+◌, ◌-◌, ◌∙◌, ◌∷◌, ◌≡◌, ◌≤◌}
 use lib.ListN.{get_elem?}
 use mathlib.Core.Option as maybe
-use Rattle.model_core.specs.{CheckpointerState, lsn, SharedWords, UserState, WriterState}
-use Rattle.model_core.specs.Actors as model
-use Rattle.model_core.specs.Hands.{checkpointer_hand, HoldsNothing, writer_hand}
-use Rattle.model_core.specs.LogSide.{LogSide}
-use Rattle.model_core.specs.Setup.{Setup}
+use Rattle.model_core.specs.{CheckpointerState, lsn, SharedWords, UserState, WriterState, checkpointer_hand, HoldsNothing, writer_hand, LogSide, Setup}
+use Rattle.model_core.specs.States as model
 use Rattle.model_core.specs.declared.steps.CheckpointerStep.{CheckpointerStep}
 use Rattle.model_core.specs.declared.steps.CheckpointerStep.TheVariants as checkpointer_step
 use Rattle.model_core.specs.declared.steps.WriterStep.{WriterStep}
 use Rattle.model_core.specs.declared.steps.WriterStep.TheVariants as writer_step
 use Rattle.model_logcore.specs.{CheckpointerAt, CheckpointerFits, LogGhost, WriterAt, WriterFits}
 use Rattle.model_running.specs.{ArePageActors}
-use Rattle.redo_disk.specs.Seen.{Seen}
-use Rattle.redo_drive.specs.Playing.{RunOf, run_log_side}
-use Rattle.redo_drive.specs.Running.{RunsWith}
+use Rattle.redo_disk.specs.{Seen}
+use Rattle.redo_drive.specs.Running.{RunOf, run_log_side, RunsWith}
 use Rattle.redo_drive.specs.declared.parts.Parts.{Parts}
 
 module _ (D : LogSide) (c : Setup) (m : SharedWords) (g : LogGhost) (p : D.Part) (sound : m.failed ≡ 0) where

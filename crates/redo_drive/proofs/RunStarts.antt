@@ -1,7 +1,5 @@
 -- New actors, the words of a start and empty lists stand at the beginning of a run.
-use Rattle.std.proofs.Common.{Bool, List, None, Option, Some, [], ap, append-nil, arith, cond, false, length, ltb}
-use Rattle.std.proofs.Common.{map, refl, slice_get, slice_index, subst, suc, sym, true, zero, ℕ, ◌%◌, ◌*◌, ◌+◌}
-use Rattle.std.proofs.Common.{◌-◌, ◌/◌, ◌<◌, ◌∙◌, ◌∷◌, ◌≡◌}
+use Rattle.std.proofs.Common.{Bool, List, None, Option, Some, [], ap, append-nil, arith, cond, false, length, ltb, map, refl, slice_get, slice_index, subst, suc, sym, true, zero, ℕ, ◌%◌, ◌*◌, ◌+◌, ◌-◌, ◌/◌, ◌<◌, ◌∙◌, ◌∷◌, ◌≡◌}
 use Rattle.std.proofs.lemmas.Bool.{le-ltb}
 use Rattle.std.proofs.lemmas.List.{get_or_past}
 use Rattle.std.specs.List.{AllByRecursion}
@@ -12,14 +10,10 @@ use native.Mathlib.Decide.{dec_le}
 use Rattle.model_base.specs.declared.limits.TheConstants.{LSN_LIMIT}
 use Rattle.model_base.specs.declared.shape.Shape.{Shape}
 use Rattle.model_core.proofs.Groups.{tiles_le}
-use Rattle.model_core.specs.{Actor, archives, change_at, changes_of, Entry, flat, Given, layout_of, Line, line_at, Listed, lsn}
-use Rattle.model_core.specs.{Tiles, UserState}
-use Rattle.model_core.specs.DataSide.{DataSide}
-use Rattle.model_core.specs.LogSide.{LogSide}
-use Rattle.model_core.specs.Setup.{Setup}
-use Rattle.model_core.specs.Actors as actor
+use Rattle.model_core.specs.{Actor, archives, change_at, changes_of, Entry, flat, Given, layout_of, Line, line_at, Listed, lsn, Tiles, UserState, DataSide, LogSide, Setup}
+use Rattle.model_core.specs.States as actor
 use Rattle.model_core.specs.declared.words.Layout.{Layout}
-use Rattle.model_device.specs.Disk.{Disk}
+use Rattle.model_device.specs.{Disk}
 use Rattle.model_running.proofs.Groups.{line_below}
 use Rattle.model_running.proofs.Scripted.{scripted}
 use Rattle.model_report.specs.{lines_of_user}
@@ -32,14 +26,14 @@ use Rattle.model_page.specs.declared.content.Content.{Content}
 use Rattle.model_theorem.specs.{IsStart}
 use Rattle.model_running.proofs.StartRunning.{store_starts}
 use Rattle.model_running.specs.{AreSeated, IsRunning}
-use Rattle.model_running.specs.RunningStore.{RunningStore}
+use Rattle.model_running.specs.Watermarks.{RunningStore}
 use Rattle.model_running.specs.StartStore.{StartStore}
 use Rattle.model_script.specs.{group_of, IsScriptLine, LineFits}
 use Rattle.model_script.specs.declared.script.ScriptLine.{ScriptLine}
-use Rattle.model_store.specs.Reading.{Reading}
+use Rattle.model_store.specs.{Reading}
 use Rattle.redo_drive.proofs.DataPartStarts as data_starting
 use Rattle.redo_drive.proofs.DataPartStarts.{StartsHolding}
-use Rattle.redo_disk.specs.Seen.{Seen}
+use Rattle.redo_disk.specs.{Seen}
 use Rattle.redo_drive.proofs.LogPartStarts as log_starting
 use Rattle.redo_drive.specs.LogPartSide as log_side
 use Rattle.redo_drive.proofs.Begun.{data_begun, log_begun}
@@ -50,17 +44,13 @@ use Rattle.redo_drive.proofs.StartWordsPages.{has_opened_pages}
 use Rattle.redo_drive.proofs.UserLines.{of_script, of_user}
 use Rattle.redo_drive.specs.Beginning.{HaveBegun}
 use Rattle.redo_drive.specs.Startable.{AreNewFollowers, HasReading}
-use Rattle.redo_drive.specs.Begins.{BeginsOn}
+use Rattle.redo_drive.specs.Begins.{BeginsOn, begun_on, IsOwnOf}
 use Rattle.redo_drive.specs.Lists.{Listings, empty_lists, lists_of}
-use Rattle.redo_drive.specs.Making.{begun_on, IsOwnOf}
-use Rattle.redo_drive.specs.Playing.{RunOf, run_data_side, run_log_side}
+use Rattle.redo_drive.specs.Running.{RunOf, run_data_side, run_log_side, groups_of, RunsFromWith, RunsWith, core_of}
 use Rattle.redo_drive.specs.Receiving.{follower_of, HasGot, IsSameFollower}
-use Rattle.redo_drive.specs.Running.{groups_of, RunsFromWith, RunsWith}
-use Rattle.redo_drive.specs.Turning.{core_of}
 use Rattle.redo_drive.specs.Setups.{first_reader, programs_of, with_others}
-use Rattle.redo_drive.specs.StartWords.{setup_of}
-use Rattle.redo_drive.specs.StartWords.{AreStartWords, StartsOn}
-use Rattle.redo_drive.specs.Views.{view_of, views_of}
+use Rattle.redo_drive.specs.StartWords.{setup_of, AreStartWords, StartsOn}
+use Rattle.redo_drive.specs.History.{view_of, views_of}
 use Rattle.redo_drive.specs.declared.actor.Actor as own_actor
 use Rattle.redo_drive.specs.declared.making.Beginning.{Beginning}
 use Rattle.redo_drive.specs.declared.memory.Own.{Own}

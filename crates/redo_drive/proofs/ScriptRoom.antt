@@ -7,7 +7,7 @@ use native.Mathlib.Decide.{ℕ_discrete}
 use Rattle.model_base.specs.declared.limits.TheConstants.{LSN_LIMIT}
 use Rattle.model_base.specs.declared.shape.Shape.{Shape}
 use Rattle.model_core.specs.{Actor, collected, Line, lsn, new_user, UserState}
-use Rattle.model_core.specs.Actors as actor
+use Rattle.model_core.specs.States as actor
 use Rattle.model_running.proofs.Places.{lsn_is}
 use Rattle.model_report.specs.{lines_of_user}
 use Rattle.model_log.specs.{group_length, group_text, run_layout, sn_of, stream_of}
@@ -17,9 +17,8 @@ use Rattle.model_script.specs.declared.misfit.TheConstants.{MAX_USERS}
 use Rattle.model_script.specs.declared.script.ScriptLine.{ScriptLine}
 use Rattle.redo_useractor.specs.{program_lines}
 use Rattle.redo_drive.specs.declared.seating.TheConstants.{FIRST_FOLLOWER}
-use Rattle.redo_drive.specs.Setups.{followers_from, other_actors, page_actors, programs_of, readers_of, seated_actors, users_below}
+use Rattle.redo_drive.specs.Setups.{followers_from, other_actors, page_actors, programs_of, readers_of, seated_actors, users_below, users_of, with_others}
 use Rattle.redo_drive.specs.LiveActors.{idle_users, live_actors}
-use Rattle.redo_drive.specs.Setups.{users_of, with_others}
 
 -- the sum for each number below n
 sum_below : (ℕ → ℕ) → ℕ → ℕ

@@ -1,17 +1,16 @@
 -- The followers in their seats, after the other actors.
-use Rattle.std.proofs.Common.{Bool, Err, List, Ok, Result, [], ap, append-nil, append_assoc, arith, false, length, length-append, map, refl, suc, true}
-use Rattle.std.proofs.Common.{subst, sym, ℕ, ◌++◌, ◌+◌, ◌-◌, ◌∙◌, ◌∷◌, ◌≡◌}
+use Rattle.std.proofs.Common.{Bool, Err, List, Ok, Result, [], ap, append-nil, append_assoc, arith, false, length, length-append, map, refl, suc, true, subst, sym, ℕ, ◌++◌, ◌+◌, ◌-◌, ◌∙◌, ◌∷◌, ◌≡◌}
 use Rattle.std.specs.Prelude.{IfOk}
 use Rattle.std.proofs.lemmas.List.{drop_at, length-map, map-append}
 use lib.ListN.{get_elem?}
 use mathlib.Core.Option.{some}
 use Rattle.model_base.specs.declared.shape.Shape.{Shape}
-use Rattle.model_core.specs.Actors as model
+use Rattle.model_core.specs.States as model
 use Rattle.model_core.specs.{new_reader}
-use Rattle.redo_drive.specs.Making.{EndsWithFollowers, EndsWithReaders, new_archiver}
+use Rattle.redo_drive.specs.Begins.{EndsWithFollowers, EndsWithReaders, new_archiver}
 use Rattle.redo_drive.specs.Setups.{followers_from, other_actors, with_others}
 use Rattle.redo_drive.specs.Startable.{AreNewFollowers}
-use Rattle.redo_drive.specs.Views.{view_of, views_of}
+use Rattle.redo_drive.specs.History.{view_of, views_of}
 use Rattle.redo_drive.specs.declared.actor.Actor.{Actor}
 use Rattle.redo_drive.specs.declared.actor.Actor.TheVariants as own
 use Rattle.redo_drive.specs.declared.seating.TheConstants.{FIRST_FOLLOWER}

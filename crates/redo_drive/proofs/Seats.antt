@@ -8,7 +8,7 @@ use native.Mathlib.Decide.{dec_le, ℕ_discrete}
 use Rattle.model_core.proofs.Collected.{collected_next, collected_none}
 use Rattle.model_core.specs.{Actor, collected, Line, new_user, UserState}
 use Rattle.model_core.proofs.Lists.{at_last, at_longer}
-use Rattle.model_core.specs.Actors as actor
+use Rattle.model_core.specs.States as actor
 use Rattle.redo_drive.specs.Setups.{user_of, users_below}
 
 -- one element more: what stands there stood there before, or is the new one

@@ -3,7 +3,7 @@ use Rattle.std.proofs.Common.{Bor, Err, List, Ok, Result, [], refl, subst, sym, 
 use Rattle.std.specs.List.{flat_map}
 use Rattle.std.specs.Prelude.{map, OnErr, OnOk}
 use Rattle.model_base.specs.declared.shape.Shape.{Shape}
-use Rattle.model_core.specs.Actors as model
+use Rattle.model_core.specs.States as model
 use Rattle.model_core.specs.{BatchPage, DataServed, LogServed}
 use Rattle.model_core.specs.declared.ops.Op.TheVariants as op
 use Rattle.model_page.specs.{user_part}
@@ -13,12 +13,11 @@ use Rattle.model_parts.specs.declared.marks.LogMarks.{LogMarks}
 use Rattle.model_parts.specs.declared.marks.TailMarks.{TailMarks}
 use Rattle.redo_drive.proofs.Lent.{lent_batch}
 use Rattle.redo_drive.specs.DataPartSide as data_part
-use Rattle.redo_disk.specs.Seen.{Seen}
+use Rattle.redo_disk.specs.{Seen}
 use Rattle.redo_disk.specs.declared.error.DevError.{DevError}
-use Rattle.redo_drive.specs.Devices.{call_code}
+use Rattle.redo_drive.specs.Asking.{call_code, LogCalled}
 use Rattle.redo_drive.specs.LogPartSide as log_part
-use Rattle.redo_drive.specs.Playing.{HasWholePages}
-use Rattle.redo_drive.specs.TurnSides.{LogCalled}
+use Rattle.redo_drive.specs.Running.{HasWholePages}
 use Rattle.redo_drive.specs.declared.device.Device.TheVariants.{Data, Log}
 use Rattle.redo_logdev.specs.PartConditions.{HasMarks}
 use Rattle.redo_logdev.specs.Part as log

@@ -1,13 +1,11 @@
 -- No Op of a running store changes the shape of its log part.
 use Rattle.std.proofs.Common.{List, ap, suc, zero, ℕ, ◌∙◌, ◌≡◌}
 use Rattle.model_base.specs.declared.shape.Shape.{Shape}
-use Rattle.model_core.specs.{Batch, Blocks, Core, filled, Lent, lent, LogServed, next, Nothing, Room}
-use Rattle.model_core.specs.DataSide.{DataSide}
-use Rattle.model_core.specs.LogSide.{LogSide}
+use Rattle.model_core.specs.{Batch, Blocks, Core, filled, Lent, lent, LogServed, next, Nothing, Room, DataSide, LogSide}
 use Rattle.model_core.specs.declared.ops.Op.{Op}
 use Rattle.model_core.specs.declared.ops.Step.{Step}
 use Rattle.model_running.specs.{TakesTurns, actor_store}
-use Rattle.redo_disk.specs.Seen.{Seen}
+use Rattle.redo_disk.specs.{Seen}
 use Rattle.redo_logdev.specs.Part.{Part}
 use Rattle.redo_drive.specs.LogPartSide.{LogCheckpointed, LogRead, LogSynced, LogWrote, log_side}
 use Rattle.model_core.specs.declared.ops.Op.TheVariants as op

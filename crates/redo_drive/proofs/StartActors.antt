@@ -1,8 +1,8 @@
 -- The actors of a run as it begins: each is new, and in its seat.
-use Rattle.std.proofs.Common.{Bool, List, [], ap, append_assoc, arith, false, if◌then◌else◌, length, length-append}
-use Rattle.std.proofs.Common.{map, refl, subst, suc, sym, true, zero, ℕ, ⊎_elim, ◌++◌, ◌+◌, ◌<◌, ◌∙◌, ◌∷◌, ◌≡◌, ◌≤◌}
+use Rattle.std.proofs.Common.{Bool, List, [], ap, append_assoc, arith, cond, false, if◌then◌else◌, length, length-append, ◌==◌, map, refl, subst, suc, sym, true, zero, ℕ, ⊎_elim, ◌++◌, ◌+◌, ◌<◌, ◌∙◌, ◌∷◌, ◌≡◌, ◌≤◌}
 use Rattle.std.specs.List.{AllByRecursion}
 use Rattle.std.specs.Prelude.{slice_index}
+use Rattle.std.proofs.lemmas.Bool.Decides.{nat_tests}
 use Rattle.std.proofs.lemmas.List.{get_or_past, length-map}
 use lib.ListN.{get_elem?}
 use mathlib.Core.Option.{some, some-injective, some-ne-none}
@@ -10,11 +10,9 @@ use native.Mathlib.Decide.{dec_le}
 use Rattle.model_base.specs.declared.limits.TheConstants.{MAX_GROUP}
 use Rattle.model_base.specs.declared.shape.Shape.{Shape}
 use Rattle.model_core.proofs.Collected.{group_has_text}
-use Rattle.model_core.specs.{Actor, CheckpointerState, Line, line_at, lsn, new_checkpointer, new_cleaner, new_closer}
-use Rattle.model_core.specs.{new_flusher, new_reader, new_user, new_writer, ReaderState, UserState}
+use Rattle.model_core.specs.{Actor, CheckpointerState, Line, line_at, lsn, new_checkpointer, new_cleaner, new_closer, new_flusher, new_reader, new_user, new_writer, ReaderState, UserState, Setup}
 use Rattle.model_core.specs.declared.limits.TheConstants.{READERS}
-use Rattle.model_core.specs.Actors as actor
-use Rattle.model_core.specs.Setup.{Setup}
+use Rattle.model_core.specs.States as actor
 use Rattle.model_running.proofs.Groups.{line_below}
 use Rattle.model_report.specs.{lines_of_user}
 use Rattle.model_logcore.specs.{StartActor, StartUser}
@@ -27,8 +25,7 @@ use Rattle.redo_drive.proofs.FirstUsers.{AreFirstUsers}
 use Rattle.redo_drive.proofs.Seats.{at_either, user_at}
 use Rattle.redo_drive.proofs.UserLines.{few_modes, of_script, of_user}
 use Rattle.redo_drive.specs.declared.seating.TheConstants.{FIRST_FOLLOWER}
-use Rattle.redo_drive.specs.Setups.{first_reader, followers_from, other_actors, page_actors, programs_of, readers_of}
-use Rattle.redo_drive.specs.Setups.{with_others}
+use Rattle.redo_drive.specs.Setups.{first_reader, followers_from, other_actors, page_actors, programs_of, readers_of, with_others}
 use Rattle.redo_drive.specs.StartWords.{seats_before, setup_of}
 use Rattle.model_log.specs.{run_layout}
 
@@ -226,6 +223,11 @@ module _ (shape : Shape) (pages : List Content) (start : ℕ) (script : List Scr
         ∷ actor.Checkpointer new_last ∷ l) all.are,
   )
 
+  -- a user that begins with a line keeps all
+  keeps_some : (user blocks : ℕ) (lines : List Line) → 0 < length lines → (new_user user blocks lines).keeps ≡ true
+  keeps_some user blocks lines has_line =
+      let test : (length lines == 0) ≡ false = grind (arith, nat_tests) in ap (λ (t : Bool). cond t false true) test
+
   -- the users are seated, and the other actors after them
   pub are_seated : AreSeated live setup (with_others (map actor.User users) shape start log_only archive followers)
   are_seated = record {
@@ -238,6 +240,8 @@ module _ (shape : Shape) (pages : List Content) (start : ℕ) (script : List Scr
     page_actors = are_page_actors log_only;
     ascending = firsts.ascending;
     have_lines = firsts.have_lines;
+    keep = λ fixed i u at. ap (λ (z : UserState). z.keeps) (firsts.each i u at).1
+        ∙ keeps_some u.user (run_layout shape).blocks (programs u.user) (firsts.have_lines fixed i u at);
     all = firsts.all;
     closer = refl;
     cleaner = refl;

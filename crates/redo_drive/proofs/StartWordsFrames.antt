@@ -5,8 +5,8 @@ use Rattle.std.proofs.lemmas.List.{ext_get_or, get_or-set_same, set-get_or, set-
 use Rattle.model_core.specs.{blank_words, frame_words, page_words_at, PageWords, SharedWords, with_page_words, wrote}
 use Rattle.model_core.specs.declared.words.Word.TheVariants as word
 use Rattle.redo_drive.proofs.StartWordsPacked.{page_frame-at, page_frame-length}
-use Rattle.redo_drive.specs.FirstWords.{cells_word, page_frame}
-use Rattle.redo_drive.specs.StartWords.{AreNamed, IsBlankFrame, with_frame}
+use Rattle.redo_drive.specs.Setups.{page_frame}
+use Rattle.redo_drive.specs.StartWords.{cells_word, AreNamed, IsBlankFrame, with_frame}
 use Rattle.redo_words.specs.Plain.{Plain}
 
 -- the first so many of the bytes, and 0 for each other

@@ -1,6 +1,5 @@
 -- A page's frame, packed eight bytes a word.
-use Rattle.std.proofs.Common.{List, [], ap, arith, drop, get_or, length, length-append, refl, replicate, subst, suc, sym, take, zero, ℕ, ◌*◌, ◌++◌, ◌+◌, ◌-◌, ◌<◌, ◌∙◌, ◌∷◌, ◌≡◌, ◌≤◌}
-use Rattle.std.proofs.Common.{length-drop, length-take-le}
+use Rattle.std.proofs.Common.{List, [], ap, arith, drop, get_or, length, length-append, refl, replicate, subst, suc, sym, take, zero, ℕ, ◌*◌, ◌++◌, ◌+◌, ◌-◌, ◌<◌, ◌∙◌, ◌∷◌, ◌≡◌, ◌≤◌, length-drop, length-take-le}
 use Rattle.std.proofs.Math.Seq.{take-append-add}
 use Rattle.std.proofs.lemmas.List.{ext_get_or, get_or-drop, get_or-replicate, get_or-take, get_or_past, length-replicate, length-take, take-append-drop}
 use Rattle.std.specs.Prelude.{max, min, slice_index}
@@ -14,8 +13,9 @@ use Rattle.model_core.proofs.PageSizes.{frame_fills}
 use Rattle.model_core.specs.{frame_bytes, frame_words, framed_page}
 unfoldable use Rattle.model_core.specs.{lane, lanes, packed}
 use Rattle.redo_drive.proofs.StartWordsPages.{page_cells-length, page_cells-small}
-unfoldable use Rattle.redo_drive.specs.FirstWords.{cells_word, page_cells, page_frame}
-use Rattle.redo_drive.specs.FirstWords.{packed_words}
+unfoldable use Rattle.redo_drive.specs.Setups.{page_cells, page_frame}
+unfoldable use Rattle.redo_drive.specs.StartWords.{cells_word}
+use Rattle.redo_drive.specs.Setups.{packed_words}
 
 words_of-length : (n : ℕ) (bytes : List ℕ) → length (packed_words n bytes) ≡ n
 words_of-length zero bytes = refl

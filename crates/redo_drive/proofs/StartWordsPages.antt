@@ -8,14 +8,13 @@ use Rattle.model_base.proofs.ShapeLimits.{whole_sectors}
 use Rattle.model_base.specs.{IsWithinLimits, user_length}
 use Rattle.model_base.specs.declared.limits.TheConstants.{PAGE_TRAILER, USER_START}
 use Rattle.model_base.specs.declared.shape.Shape.{Shape}
-use Rattle.model_core.specs.{KeptPage}
-use Rattle.model_core.specs.Setup.{Setup}
+use Rattle.model_core.specs.{KeptPage, Setup}
 use Rattle.model_running.specs.{HasItsPages, kept_content}
 use Rattle.model_page.specs.{blank_page, user_part}
 use Rattle.model_page.specs.declared.content.Content.{Content}
 use Rattle.model_theorem.specs.{Opened}
 use Rattle.redo_apply.specs.{ArePagesOf}
-use Rattle.redo_drive.specs.FirstWords.{page_cells}
+use Rattle.redo_drive.specs.Setups.{page_cells}
 use Rattle.redo_drive.specs.StartWords.{HoldBytes, kept_page_of, opened_page}
 
 -- in so many zeros, and past them, each number is 0

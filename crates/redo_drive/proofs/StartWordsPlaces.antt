@@ -7,7 +7,7 @@ use Rattle.model_core.specs.{SharedWords, wrote}
 use Rattle.model_core.specs.declared.limits.TheConstants.{READERS}
 use Rattle.model_core.specs.declared.words.Word.TheVariants as word
 use Rattle.model_log.specs.declared.layout.TheConstants.{BLOCK_HEADER}
-use Rattle.redo_drive.specs.FirstWords.{first_places}
+use Rattle.redo_drive.specs.Setups.{first_places}
 use Rattle.redo_drive.specs.StartWords.{AreNamed}
 use Rattle.redo_words.specs.Plain.{Plain}
 

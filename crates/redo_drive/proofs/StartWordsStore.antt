@@ -10,9 +10,7 @@ use Rattle.model_base.specs.declared.limits.TheConstants.{BLOCK_SIZE}
 use Rattle.model_base.specs.declared.shape.Shape.{Shape}
 use Rattle.model_core.proofs.Lists.{one_turn}
 use Rattle.model_core.proofs.Lsns.{lsn_block, lsn_offset}
-use Rattle.model_core.specs.{blank_words, flat, framed_page, frame_words, IsSized, KeptPage, layout_of, lsn, page_words_at, PageWords, SharedWords}
-use Rattle.model_core.specs.Setup.{Setup}
-use Rattle.model_core.specs.StartWords.{start_checkpoint}
+use Rattle.model_core.specs.{blank_words, flat, framed_page, frame_words, IsSized, KeptPage, layout_of, lsn, page_words_at, PageWords, SharedWords, Setup, start_checkpoint}
 use Rattle.model_core.specs.declared.limits.TheConstants.{BUFFER_BLOCKS, READERS}
 use Rattle.model_core.specs.declared.words.Layout.{Layout}
 use Rattle.model_log.specs.{data_before, IsAtDataStart, sn_of}
@@ -24,7 +22,7 @@ use Rattle.redo_drive.proofs.StartWordsPacked.{page_frame-bytes}
 use Rattle.redo_drive.proofs.StartWordsPages.{user_at}
 use Rattle.redo_drive.proofs.StartWordsPlaces.{first_place}
 use Rattle.redo_drive.proofs.StartWordsZero.{zero_page, zero_page_at, zero_words, zeros-length, zeros-zero}
-use Rattle.redo_drive.specs.FirstWords.{first_places, first_words, free_page, page_frame, zeros}
+use Rattle.redo_drive.specs.Setups.{first_places, first_words, free_page, page_frame, zeros}
 use Rattle.redo_drive.specs.StartWords.{AreNamed, AreStartWords, IsBlankFrame, StartsOn, with_frame, with_log}
 use Rattle.redo_words.specs.Plain.{Plain, shape_layout}
 

@@ -5,7 +5,7 @@ use Rattle.std.proofs.lemmas.List.{get_or-replicate, length-replicate}
 use Rattle.model_core.specs.{blank_words, flat, flat_page_words, frame_words, page_stride, page_words_at, PageWords, rows, SharedWords, word_count}
 use Rattle.model_core.specs.declared.limits.TheConstants.{BUFFER_BLOCKS, CLOSED_LINKS, FLUSH_LISTS, BUFFER_WORDS, READERS, WRITTEN_LINKS}
 use Rattle.model_core.specs.declared.words.Layout.{Layout}
-use Rattle.redo_drive.specs.FirstWords.{free_page, zeros}
+use Rattle.redo_drive.specs.Setups.{free_page, zeros}
 use Rattle.redo_drive.specs.StartWords.{AreNamed}
 use Rattle.redo_words.specs.Plain.{Plain}
 

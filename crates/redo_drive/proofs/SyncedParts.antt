@@ -2,12 +2,10 @@
 use Rattle.std.proofs.Common.{List, None, Option, Some, ap, arith, false, refl, subst, sym, ℕ, ◌∙◌, ◌≡◌}
 use Rattle.std.specs.Prelude.{IfSome, is_some}
 use Rattle.model_base.specs.declared.shape.Shape.{Shape}
-use Rattle.model_core.specs.{BatchPage, KeptPage, lsn}
-use Rattle.model_core.specs.Setup.{Setup}
+use Rattle.model_core.specs.{BatchPage, KeptPage, lsn, Setup}
 use Rattle.model_parts.specs.{after_synced, IsLive, IsUpTo, LogHoldsWith, tails_synced}
 use Rattle.model_parts.specs.Stored.{Stored}
-use Rattle.model_device.specs.{settled, synced}
-use Rattle.model_device.specs.Disk.{Disk}
+use Rattle.model_device.specs.{settled, synced, Disk}
 use Rattle.model_running.specs.{contents_of, LogTells}
 use Rattle.model_parts.proofs.Checkpoints.{synced-live}
 use Rattle.model_parts.proofs.LogImages.{beside-kept}
@@ -15,7 +13,7 @@ use Rattle.model_parts.specs.declared.marks.LogMarks.{LogMarks}
 use Rattle.model_parts.specs.declared.marks.TailMarks.{TailMarks}
 use Rattle.model_log.specs.declared.group.Whole.{Whole}
 use Rattle.redo_drive.specs.DataPartSide.{HoldsPages, fresh_batch}
-use Rattle.redo_disk.specs.Seen.{Seen}
+use Rattle.redo_disk.specs.{Seen}
 use Rattle.redo_logdev.specs.{DiskHolds}
 use Rattle.redo_logdev.specs.Part as log
 use Rattle.redo_drive.specs.LogPartSide.{log_side}

@@ -1,12 +1,8 @@
 -- What each actor makes of an answer, as all actors have it.
-use Rattle.std.proofs.Common.{Bool, List, [], ap, append-nil, arith, cond, eqb, false, refl, subst, sym}
-use Rattle.std.proofs.Common.{true, ℕ, ◌<◌, ◌∙◌, ◌≡◌}
+use Rattle.std.proofs.Common.{Bool, List, [], ap, append-nil, arith, cond, eqb, false, refl, subst, sym, true, ℕ, ◌<◌, ◌∙◌, ◌≡◌}
 use Rattle.std.proofs.lemmas.Bool.{ne_eqb}
-use Rattle.model_core.specs.Actors as model
-use Rattle.model_core.specs.{after_of, archives, checked_of, filled, Filling, followed, Given}
-use Rattle.model_core.specs.{has_all, is_none, old_of}
-use Rattle.model_core.specs.{placed_at, reader_ending, reader_holds, reader_program, reader_took, ReaderState}
-use Rattle.model_core.specs.{step_of, to_append, took}
+use Rattle.model_core.specs.States as model
+use Rattle.model_core.specs.{after_of, archives, checked_of, filled, Filling, followed, Given, has_all, is_none, old_of, placed_at, reader_ending, reader_holds, reader_program, reader_took, ReaderState, step_of, to_append, took}
 use Rattle.model_core.specs.ReaderProgram.{reader_filled, reader_fills}
 use Rattle.model_core.specs.declared.ops.Answer.{Answer}
 use Rattle.model_core.specs.declared.ops.Step.{Step}
@@ -16,7 +12,7 @@ use Rattle.model_core.specs.declared.steps.ReaderStep.TheVariants as reader_step
 use Rattle.model_running.specs.ReadHalf.{handed_at}
 use Rattle.redo_drive.specs.Receiving.{filling_of, handed_by, HasTaken, MarkFits}
 use Rattle.redo_drive.specs.declared.actor.Actor.TheVariants as own
-use Rattle.redo_follow.specs.Handing.{Followed, IsToFollow, StandsFor, TookAnswer}
+use Rattle.redo_follow.specs.{Followed, IsToFollow, StandsFor, TookAnswer}
 use Rattle.redo_follow.specs.Following.{Following}
 
 -- an actor's state after an answer

@@ -1,16 +1,16 @@
 -- A turn over the sides of the invariant is a turn over those that tell nothing of what a device holds.
 use Rattle.std.proofs.Common.{ℕ}
 use Rattle.model_core.specs.{Batch, Blocks, Core, DataServed, filled, Lent, lent, LogServed, next, Nothing, Room}
-use Rattle.model_core.specs.Turn.{Turn}
+use Rattle.model_core.specs.Program.{Turn}
 use Rattle.model_core.specs.declared.ops.Answer.{Answer}
 use Rattle.model_core.specs.declared.ops.Op.{Op}
 use Rattle.model_core.specs.declared.ops.Op.TheVariants as op
 use Rattle.model_core.specs.declared.ops.Step.{Step}
-use Rattle.redo_disk.specs.Seen.{Seen}
+use Rattle.redo_disk.specs.{Seen}
 use Rattle.redo_drive.specs.DataPartSide.{DataWrote}
 use Rattle.redo_drive.specs.LogPartSide.{LogCheckpointed, LogRead, LogSynced, LogWrote}
 use Rattle.redo_drive.specs.Sides.{RunOf, run_data_side, run_log_side}
-use Rattle.redo_drive.specs.TurnSides.{BatchCalled, turn_data_side, turn_log_side}
+use Rattle.redo_drive.specs.Asking.{BatchCalled, turn_data_side, turn_log_side}
 use Rattle.redo_logdev.specs.Part as log
 use Rattle.redo_store.specs.Part as store
 

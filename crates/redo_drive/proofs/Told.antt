@@ -1,5 +1,5 @@
 -- What the users tell of their groups is the log of the run.
-use Rattle.std.proofs.Common.{Bool, List, [], ap, arith, get_or, length, map, refl, slice_index, suc, sym, zero, ℕ, ◌++◌, ◌+◌, ◌-◌, ◌<◌, ◌∙◌, ◌∷◌, ◌≡◌, ◌≤◌}
+use Rattle.std.proofs.Common.{Bool, List, [], ap, arith, false, get_or, length, map, refl, slice_index, suc, sym, zero, ℕ, ◌++◌, ◌+◌, ◌-◌, ◌<◌, ◌∙◌, ◌∷◌, ◌≡◌, ◌≤◌}
 use Rattle.std.proofs.lemmas.List.{length-map}
 use Rattle.std.proofs.lemmas.List.Concat.{flat_map-cons}
 use lib.ListN.{get_elem?}
@@ -7,23 +7,20 @@ use mathlib.Core.Option.{some, some-injective, some-ne-none}
 use Rattle.model_base.specs.declared.limits.TheConstants.{LSN_LIMIT}
 use Rattle.model_core.proofs.Groups.{tiles_at}
 use Rattle.model_core.proofs.Lsns.{lsn_less, sn_below}
-use Rattle.model_core.specs.Actors as model
-use Rattle.model_core.specs.{end_of, entries, entries_from, entry, Line, line_at, lsn, sum_of, Tiles, UserState}
-use Rattle.model_core.specs.Groups as core
-use Rattle.model_running.specs.{history_entry, history_of, word_marks}
+use Rattle.model_core.specs.States as model
+use Rattle.model_core.specs.{end_of, entries, entries_from, entry, Line, line_at, lsn, sum_of, Tiles, UserState, Setup}
+use Rattle.model_running.proofs.Seated.{user_seat}
+use Rattle.model_running.specs.{AreSeated, history_entry, history_of, word_marks}
 use Rattle.model_report.specs.declared.entry.Entry.{Entry}
 use Rattle.model_report.specs.declared.entry.Marks.{Marks}
 use Rattle.model_logcore.proofs.AnswersFit.{small_sn}
-use Rattle.model_logcore.specs.{LogGhost, sum_over_actors, UserFits}
-use Rattle.model_logcore.specs.LogHalf.{LogHalf}
-use Rattle.redo_disk.specs.Seen.{Seen}
+use Rattle.model_logcore.specs.{LogGhost, sum_over_actors, UserFits, LogHalf}
+use Rattle.redo_disk.specs.{Seen}
 use Rattle.redo_drive.proofs.InOrder.{Rises, same_in_order, total, total_moved}
 use Rattle.redo_drive.proofs.Viewed.{view_at}
-use Rattle.redo_drive.specs.History.{ListsInOrder, all_listed, listed}
-use Rattle.redo_drive.specs.Reserved.{HasGroups, HasReserved}
-use Rattle.redo_drive.specs.Playing.{RunOf, run_log_side}
-use Rattle.redo_drive.specs.Running.{RunsWith}
-use Rattle.redo_drive.specs.Views.{view_of, views_of}
+use Rattle.redo_drive.specs.History.{ListsInOrder, all_listed, listed, view_of, views_of}
+use Rattle.redo_drive.specs.Reserved.{HasGroups, HasReserved, KeepsAll}
+use Rattle.redo_drive.specs.Running.{RunOf, run_log_side, RunsWith}
 use Rattle.redo_drive.specs.declared.actor.Actor.{Actor}
 use Rattle.redo_drive.specs.declared.parts.Parts.{Parts}
 
@@ -32,7 +29,7 @@ rises_later : (n m : ℕ) (xs : List Entry) → n ≤ m → Rises m xs → Rises
 rises_later n m [] l up = tt
 rises_later n m (x ∷ xs) l up = let low = up.0 in (omega arith, up.1)
 
-history_rises : (answered : ℕ → ℕ) (marks : Marks) (log : List core.Entry) (s n : ℕ) → Tiles s log n → Rises (lsn s) (history_of answered marks log)
+history_rises : (answered : ℕ → ℕ) (marks : Marks) (log : List model.Entry) (s n : ℕ) → Tiles s log n → Rises (lsn s) (history_of answered marks log)
 history_rises answered marks [] s n tiles = tt
 history_rises answered marks (e ∷ es) s n tiles =
     let start : lsn s ≡ lsn e.start = ap lsn (sym tiles.0) in
@@ -41,7 +38,7 @@ history_rises answered marks (e ∷ es) s n tiles =
     (omega arith, rises_later (lsn e.start + 1) (lsn (s + length e.bytes)) (history_of answered marks es) (omega arith) (history_rises answered marks es (s + length e.bytes) n tiles.3))
 
 -- a number of the history's entries is one of the log's groups
-log_total : (answered : ℕ → ℕ) (marks : Marks) (f : Entry → ℕ) (log : List core.Entry) → total f (history_of answered marks log) ≡ sum_of (λ e. f (history_entry answered marks e)) log
+log_total : (answered : ℕ → ℕ) (marks : Marks) (f : Entry → ℕ) (log : List model.Entry) → total f (history_of answered marks log) ≡ sum_of (λ e. f (history_entry answered marks e)) log
 log_total answered marks f [] = refl
 log_total answered marks f (e ∷ es) = ap (λ (n : ℕ). f (history_entry answered marks e) + n) (log_total answered marks f es)
 
@@ -55,7 +52,7 @@ user_total answered marks f user done lines k (s ∷ ss) is =
     omega arith
 
 -- the number of the j-th of a user's groups is at most that of all
-group_at : (h : core.Entry → ℕ) (user : ℕ) (lines : List Line) (k : ℕ) (starts : List ℕ) (j : ℕ) → j < length starts → h (entry user (k + j) (slice_index starts j) (line_at lines (k + j))) ≤ sum_of h (entries_from user lines k starts)
+group_at : (h : model.Entry → ℕ) (user : ℕ) (lines : List Line) (k : ℕ) (starts : List ℕ) (j : ℕ) → j < length starts → h (entry user (k + j) (slice_index starts j) (line_at lines (k + j))) ≤ sum_of h (entries_from user lines k starts)
 group_at h user lines k [] j l = absurd (omega arith)
 group_at h user lines k (s ∷ ss) zero l = let same : h (entry user (k + 0) s (line_at lines (k + 0))) ≡ h (entry user k s (line_at lines k)) = ap (λ (i : ℕ). h (entry user i s (line_at lines i))) (omega arith) in omega arith
 group_at h user lines k (s ∷ ss) (suc j) l =
@@ -69,7 +66,7 @@ actor_at h [] seat a at = absurd (some-ne-none a (sym at))
 actor_at h (x ∷ xs) zero a at = let same : h x ≡ h a = ap h (some-injective x a at) in omega arith
 actor_at h (x ∷ xs) (suc seat) a at = let r = actor_at h xs seat a at in omega arith
 
-none_of_log : (h : core.Entry → ℕ) (log : List core.Entry) → ((i : ℕ) (e : core.Entry) → get_elem? log i ≡ some e → h e ≡ 0) → sum_of h log ≡ 0
+none_of_log : (h : model.Entry → ℕ) (log : List model.Entry) → ((i : ℕ) (e : model.Entry) → get_elem? log i ≡ some e → h e ≡ 0) → sum_of h log ≡ 0
 none_of_log h [] each = refl
 none_of_log h (e ∷ es) each = let a = each 0 e refl in let r = none_of_log h es (λ i x is. each (suc i) x is) in omega arith
 
@@ -104,6 +101,11 @@ all_total answered marks f (x ∷ xs) are =
     let rest = all_total answered marks f xs (λ seat u at. are (suc seat) u at) in
     omega arith
 
+keeps_all : {live : Bool} (c : Setup) (actors : List model.Actor) → AreSeated live c actors → live ≡ false
+    → (seat : ℕ) (a : model.Actor) → get_elem? actors seat ≡ some a → KeepsAll a
+keeps_all c actors seated fixed seat (model.User u) at = seated.keep fixed seat u (user_seat c actors seated seat u at)
+keeps_all c actors seated fixed seat _ at = tt
+
 module _ {L D : Type 0} {archive : Bool} (log_seen : L → Seen) (data_seen : D → Seen) (run : RunOf L D) (parts : Parts L D)
     (actors : List model.Actor) (runs : RunsWith log_seen data_seen run archive parts actors) where
   abbrev ghosts : LogGhost
@@ -116,7 +118,7 @@ module _ {L D : Type 0} {archive : Bool} (log_seen : L → Seen) (data_seen : D 
   half = runs.running.both.logged
 
   -- what no group of the log has, no group of a user has
-  pub none_of_user : (h : core.Entry → ℕ) → ((i : ℕ) (e : core.Entry) → get_elem? ghosts.log i ≡ some e → h e ≡ 0)
+  pub none_of_user : (h : model.Entry → ℕ) → ((i : ℕ) (e : model.Entry) → get_elem? ghosts.log i ≡ some e → h e ≡ 0)
       → (seat : ℕ) (u : UserState) → get_elem? actors seat ≡ some (model.User u) → (k : ℕ) → k < length u.starts
       → h (entry u.user k (slice_index u.starts k) (line_at u.lines k)) ≡ 0
   none_of_user h none seat u at k l =
@@ -156,6 +158,14 @@ module _ {L D : Type 0} {archive : Bool} (log_seen : L → Seen) (data_seen : D 
   history_is history l =
       same_in_order (lsn run.setup.base) history (history_of ghosts.answered marks ghosts.log) l.in_order
       (history_rises ghosts.answered marks ghosts.log run.setup.base runs.running.shared.sn half.global.tiled.tiles) (λ f. total_moved f (all_listed marks actors) history l.all ∙ sums f)
+
+-- and in a run that isn't a live one each can tell them all
+pub have_kept : {L D R : Type 0} {archive : Bool} (log_seen : L → Seen) (data_seen : D → Seen) (run : RunOf L D) (parts : Parts L D)
+    (actors : List (Actor R)) → RunsWith log_seen data_seen run archive parts (views_of actors) → run.live ≡ false
+    → (seat : ℕ) (actor : Actor R) → seat < length actors → KeepsAll (view_of (get_or actors seat actor))
+have_kept log_seen data_seen run parts actors runs fixed seat actor l =
+    keeps_all run.setup (views_of actors) runs.seated fixed seat (view_of (get_or actors seat actor))
+    (view_at actors seat actor l)
 
 pub have_groups : {L D R : Type 0} {archive : Bool} (log_seen : L → Seen) (data_seen : D → Seen) (run : RunOf L D) (parts : Parts L D)
     (actors : List (Actor R)) → RunsWith log_seen data_seen run archive parts (views_of actors)

@@ -1,21 +1,15 @@
 -- A served actor has had a turn of the definition, and the run goes on.
-use Rattle.std.proofs.Common.{Bool, List, None, Option, Some, [], ap, append_assoc, append-nil, cond, eqb, false}
-use Rattle.std.proofs.Common.{get_or, length, refl, set, subst, sym, true, ⊎_elim, ℕ}
-use Rattle.std.proofs.Common.{◌++◌, ◌<◌, ◌==◌, ◌∙◌, ◌≡◌, ◌≢◌, is_some}
+use Rattle.std.proofs.Common.{Bool, List, None, Option, Some, [], ap, append_assoc, append-nil, cond, eqb, false, get_or, length, refl, set, subst, sym, true, ⊎_elim, ℕ, ◌++◌, ◌<◌, ◌==◌, ◌∙◌, ◌≡◌, ◌≢◌, is_some}
 use Rattle.std.proofs.lemmas.Bool.{eq-eqb, ne_eqb}
 use Rattle.std.proofs.lemmas.List.{length-set, map-set}
 use native.Mathlib.Decide.{ℕ_discrete}
 use lib.ListN.{get_elem?}
 use mathlib.Core.Option.{some, some-injective}
 use Rattle.model_core.proofs.Lists.{at_set}
-use Rattle.model_core.specs.Actors as model
-use Rattle.model_core.specs.AnswerFits.{AnswerFits}
-use Rattle.model_core.specs.{after_of, answer_of, archives, checked_of, Entry, filled, Filling, Given, next}
-use Rattle.model_core.specs.{old_of, reader_program, reader_took, ReaderState, took}
-use Rattle.model_core.specs.DataSide.{DataSide}
-use Rattle.model_core.specs.LogSide.{LogSide}
+use Rattle.model_core.specs.States as model
+use Rattle.model_core.specs.{AnswerFits, after_of, answer_of, archives, checked_of, Entry, filled, Filling, Given, next, old_of, reader_program, reader_took, ReaderState, took, DataSide, LogSide}
 use Rattle.model_core.specs.ReaderProgram.{reader_filled}
-use Rattle.model_core.specs.Turn.{Turn}
+use Rattle.model_core.specs.Program.{Turn}
 use Rattle.model_core.specs.declared.ops.Answer.{Answer}
 use Rattle.model_core.specs.declared.ops.Op.{Op}
 use Rattle.model_core.specs.declared.ops.Step.{Step}
@@ -27,15 +21,13 @@ use Rattle.model_running.proofs.EachTurn.{log_then, turn_leaves}
 use Rattle.model_running.proofs.Receivers.{receiver_keeps, told_then}
 use Rattle.model_running.proofs.SeatsKeep.{turn_keeps_seats}
 use Rattle.model_running.specs.ReadHalf.{groups_upto, handed}
-use Rattle.redo_disk.specs.Seen.{Seen}
+use Rattle.redo_disk.specs.{Seen}
 use Rattle.redo_drive.proofs.Taken.{number_kept, wrapped}
 use Rattle.redo_drive.proofs.Viewed.{own_at, view_at, views_at}
 use Rattle.redo_drive.specs.Lists.{lists_of}
-use Rattle.redo_drive.specs.Playing.{HasSamePages, IsPlayed, RunOf, run_data_side, run_log_side}
+use Rattle.redo_drive.specs.Running.{HasSamePages, IsPlayed, RunOf, run_data_side, run_log_side, groups_of, RunsFromWith, RunsWith, IsServed, MayServe, TakesTurn, core_of}
 use Rattle.redo_drive.specs.Receiving.{follower_of, handed_by, HasGot, IsSameFollower, MarkFits}
-use Rattle.redo_drive.specs.Running.{groups_of, RunsFromWith, RunsWith}
-use Rattle.redo_drive.specs.Turning.{IsServed, MayServe, TakesTurn, core_of}
-use Rattle.redo_drive.specs.Views.{view_of, views_of}
+use Rattle.redo_drive.specs.History.{view_of, views_of}
 use Rattle.redo_drive.specs.declared.actor.Actor.{Actor}
 use Rattle.redo_drive.specs.declared.parts.Parts.{Parts}
 use Rattle.redo_follow.specs.Following.{Following}

@@ -1,14 +1,12 @@
 -- What a user tells of its groups is what the history has of it.
-use Rattle.std.proofs.Common.{Bool, List, Some, [], ap, arith, cond, eq-eqb, eqb, false, length, refl, slice_get}
-use Rattle.std.proofs.Common.{slice_index, suc, sym, take, true, zero, ℕ, ◌+◌, ◌-◌, ◌<◌, ◌∙◌, ◌∷◌, ◌≡◌}
+use Rattle.std.proofs.Common.{Bool, List, Some, [], ap, arith, cond, eq-eqb, eqb, false, length, refl, slice_get, slice_index, suc, sym, take, true, zero, ℕ, ◌+◌, ◌-◌, ◌<◌, ◌∙◌, ◌∷◌, ◌≡◌}
 use Rattle.std.proofs.lemmas.Bool.{eqb-true}
 use Rattle.std.proofs.lemmas.List.{length-map}
 use Rattle.std.proofs.lemmas.Option.{same_Some}
 use lib.ListN.{get_elem?}
 use mathlib.Core.Option as maybe
-use Rattle.model_core.specs.Actors as model
+use Rattle.model_core.specs.States as model
 use Rattle.model_core.specs.{entries_from, entry, Line, line_at, PageChange, UserState}
-use Rattle.model_core.specs.Groups as core
 use Rattle.model_logcore.proofs.UserGroups.{rank_same}
 use Rattle.model_logcore.specs.{count_of, LogGhost, Tiled, UserFits}
 use Rattle.model_report.specs.{entries_of_user}
@@ -16,12 +14,11 @@ use Rattle.model_report.specs.declared.entry.Entry.{Entry}
 use Rattle.model_report.specs.declared.entry.Marks.{Marks}
 use Rattle.model_running.proofs.Legality.{counts, get_below, IsRanked, ranked}
 use Rattle.model_running.specs.{history_entry, history_of, word_marks}
-use Rattle.redo_disk.specs.Seen.{Seen}
+use Rattle.redo_disk.specs.{Seen}
 use Rattle.redo_drive.proofs.Told.{none_of_user}
 use Rattle.redo_drive.specs.History.{listed, listed_from}
-use Rattle.redo_drive.specs.Playing.{RunOf, run_log_side}
+use Rattle.redo_drive.specs.Running.{RunOf, run_log_side, RunsWith}
 use Rattle.redo_drive.specs.Reserved.{listed_group}
-use Rattle.redo_drive.specs.Running.{RunsWith}
 use Rattle.redo_drive.specs.declared.parts.Parts.{Parts}
 
 -- lists of one length are one where they have the same in each place
@@ -51,10 +48,10 @@ entries_length user lines k [] = refl
 entries_length user lines k (s ∷ ss) = let r = entries_length user lines (k + 1) ss in omega arith
 
 -- how far a group of this user and this number starts from there
-abbrev gap_of : (user k start : ℕ) → core.Entry → ℕ
+abbrev gap_of : (user k start : ℕ) → model.Entry → ℕ
 gap_of user k start e = cond (eqb e.user user) (cond (eqb e.k k) (e.start - start + (start - e.start)) 0) 0
 
-no_gap : (user k start : ℕ) (e : core.Entry) → (e.user ≡ user → e.k ≡ k → e.start ≡ start) → gap_of user k start e ≡ 0
+no_gap : (user k start : ℕ) (e : model.Entry) → (e.user ≡ user → e.k ≡ k → e.start ≡ start) → gap_of user k start e ≡ 0
 no_gap user k start e same = by (eqb e.user user) refl (eqb e.k k) refl
   where
     by : (a : Bool) → eqb e.user user ≡ a → (b : Bool) → eqb e.k k ≡ b
@@ -107,7 +104,7 @@ module _ {L D : Type 0} {archive : Bool} (log_seen : L → Seen) (data_seen : D 
     start = sym (same_start u.user i r.group.start (slice_index u.starts i) (line_at u.lines i)
         (none_of_user log_seen data_seen run parts actors runs (gap_of u.user i r.group.start)
         (λ j e is. no_gap u.user i r.group.start e (λ user k.
-        ap (λ (z : core.Entry). z.start) (rank_same run.setup runs.running.shared.sn g.log g.place j r.place e r.group
+        ap (λ (z : model.Entry). z.start) (rank_same run.setup runs.running.shared.sn g.log g.place j r.place e r.group
         tiled is r.is (user ∙ sym r.own) (k ∙ sym number))))
         seat u at i below))
 
@@ -122,7 +119,7 @@ module _ {L D : Type 0} {archive : Bool} (log_seen : L → Seen) (data_seen : D 
     changes = (tiled.lines r.place r.group r.is).2 ∙ ap (λ (l : Line). l.changes) its_line
 
     -- it is the group that the user reserved
-    group_is : ◌≡◌ {A = core.Entry} r.group (entry u.user i (slice_index u.starts i) (line_at u.lines i))
+    group_is : ◌≡◌ {A = model.Entry} r.group (entry u.user i (slice_index u.starts i) (line_at u.lines i))
     group_is = λ t. record { user = r.own t; k = number t; start = start t; bytes = bytes t; changes = changes t }
 
     told : slice_get (listed_from marks u 0 u.starts) i ≡ Some x
@@ -130,7 +127,7 @@ module _ {L D : Type 0} {archive : Bool} (log_seen : L → Seen) (data_seen : D 
         ∙ ap (λ (n : ℕ). Some (listed_group marks u n (slice_index u.starts i))) (let e : 0 + i ≡ i = omega arith in e)
         ∙ ap (λ (n : ℕ). Some (history_entry (λ v. n) marks
         (entry u.user i (slice_index u.starts i) (line_at u.lines i)))) (sym fits.answers)
-        ∙ ap (λ (e : core.Entry). Some (history_entry g.answered marks e)) (sym group_is)
+        ∙ ap (λ (e : model.Entry). Some (history_entry g.answered marks e)) (sym group_is)
         ∙ ap (λ (z : Entry). Some z) r.entry_is
 
   pub user_entries : ◌≡◌ {A = List Entry} own (listed marks (model.User u))

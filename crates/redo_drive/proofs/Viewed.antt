@@ -1,11 +1,10 @@
 -- The actors as the definitions see them, seat by seat.
-use Rattle.std.proofs.Common.{List, [], ap, arith, get_or, length, refl, slice_get, subst, suc, sym, zero, ℕ, ◌<◌}
-use Rattle.std.proofs.Common.{◌∷◌, ◌≡◌}
+use Rattle.std.proofs.Common.{List, [], ap, arith, get_or, length, refl, slice_get, subst, suc, sym, zero, ℕ, ◌<◌, ◌∷◌, ◌≡◌}
 use Rattle.std.specs.Prelude.{IfSome}
 use lib.ListN.{get_elem?}
 use mathlib.Core.Option.{some, some-injective, some-ne-none}
-use Rattle.model_core.specs.Actors as model
-use Rattle.redo_drive.specs.Views.{view_of, views_of}
+use Rattle.model_core.specs.States as model
+use Rattle.redo_drive.specs.History.{view_of, views_of}
 use Rattle.redo_drive.specs.declared.actor.Actor.{Actor}
 
 -- there are as many

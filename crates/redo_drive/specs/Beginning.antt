@@ -4,7 +4,7 @@ use Rattle.model_core.specs.{Actor, Listed, lsn}
 use Rattle.model_running.specs.{HasItsPages, IsOfScript}
 use Rattle.model_script.specs.declared.script.ScriptLine.{ScriptLine}
 use Rattle.redo_drive.specs.DataPartSide as data_part
-use Rattle.redo_disk.specs.Seen.{Seen}
+use Rattle.redo_disk.specs.{Seen}
 use Rattle.redo_drive.specs.LogPartSide as log_part
 use Rattle.redo_drive.specs.Lists.{lists_of}
 use Rattle.redo_drive.specs.Sides.{RunOf}

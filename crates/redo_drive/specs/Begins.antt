@@ -1,24 +1,73 @@
--- A run at its beginning, with all that the invariant starts from.
-use Rattle.std.specs.Prelude.{Bool, IfSome, List, [], false, length, true, vec_capacity, ℕ, ◌≡◌, ◌≤◌}
-use Rattle.model_core.specs.{Actor, flat, Given, Listed, SharedWords}
+-- A run at its beginning: what it takes memory for, and all that the invariant starts from.
+use Rattle.std.specs.Prelude.{Bool, Err, List, Ok, Result, [], drop, false, length, map, suc, true, vec_capacity, ℕ, ◌-◌, ◌∷◌, ◌≡◌, ◌≤◌, IfSome}
+use Rattle.model_base.specs.declared.shape.Shape.{Shape}
+use Rattle.model_core.specs.{flat, new_reader, Given, Listed, SharedWords, Setup}
+use Rattle.model_core.specs.States as model
+use Rattle.model_page.specs.declared.content.Content.{Content}
+use Rattle.redo_drive.specs.Lists.{empty_lists, lists_of}
+use Rattle.redo_drive.specs.Setups.{first_words, seated_actors}
+use Rattle.redo_drive.specs.StartWords.{AreStartWords, HoldBytes, StartsOn}
+use Rattle.redo_drive.specs.History.{views_of}
+use Rattle.redo_drive.specs.declared.actor.Actor.{Actor}
+use Rattle.redo_drive.specs.declared.actor.Actor.TheVariants as own
+use Rattle.redo_drive.specs.declared.making.Beginning.{Beginning}
+use Rattle.redo_drive.specs.declared.memory.Own.{Own}
+use Rattle.redo_follow.specs.Following.{Following}
+use Rattle.redo_store.specs.declared.opened.Opened.{Opened}
+use Rattle.redo_words.specs.{shape_layout}
 use Rattle.model_theorem.specs.{IsStart}
 use Rattle.model_running.specs.StartStore.{StartStore}
 use Rattle.model_script.specs.declared.script.ScriptLine.{ScriptLine}
-use Rattle.model_store.specs.Reading.{Reading}
-use Rattle.redo_disk.specs.Seen.{Seen}
+use Rattle.model_store.specs.{Reading}
+use Rattle.redo_disk.specs.{Seen}
 use Rattle.redo_drive.specs.Beginning.{HaveBegun, IsRunWith, StandsOn}
-use Rattle.redo_drive.specs.FirstWords.{first_words}
 use Rattle.redo_drive.specs.Startable.{HasReading}
-use Rattle.redo_drive.specs.Lists.{lists_of}
 use Rattle.redo_drive.specs.LiveActors.{live_actors}
-use Rattle.redo_drive.specs.Making.{EndsWithReaders}
-use Rattle.redo_drive.specs.Playing.{RunOf, run_data_side, run_log_side}
-use Rattle.redo_drive.specs.Running.{RunsFromWith}
-use Rattle.redo_drive.specs.Setups.{seated_actors}
-use Rattle.redo_drive.specs.Views.{views_of}
-use Rattle.redo_drive.specs.declared.making.Beginning.{Beginning}
-use Rattle.redo_follow.specs.Following.{Following}
-use Rattle.redo_store.specs.declared.opened.Opened.{Opened}
+use Rattle.redo_drive.specs.Running.{RunOf, run_data_side, run_log_side, RunsFromWith}
+
+-- the last actors are these followers, in their order
+abbrev pub EndsWithFollowers : {R : Type 0} → List (Actor R) → List (Following R) → Type 0
+EndsWithFollowers {R} actors followers =
+    ◌≡◌ {A = List (Actor R)} (drop (length actors - length followers) actors) (map own.Follower followers)
+
+-- a new archiver, if the run is archived
+abbrev pub new_archiver : {R : Type 0} → (start : ℕ) → (archive : Bool) → List (Actor R)
+new_archiver start true = own.Archiver (new_reader 0 start) ∷ []
+new_archiver start false = []
+
+-- the last actors are the readers of the log: a new archiver, if the run is archived, and these followers
+abbrev pub EndsWithReaders : {R : Type 0} → (start : ℕ) → (archive : Bool) → List (Actor R) → List (Following R) → Type 0
+EndsWithReaders {R} start true actors followers =
+    ◌≡◌ {A = List (Actor R)} (drop (length actors - suc (length followers)) actors)
+    (own.Archiver (new_reader 0 start) ∷ map own.Follower followers)
+EndsWithReaders start false actors followers = EndsWithFollowers actors followers
+
+-- The words of the run's start, empty lists, these actors in their seats, the last of which read the log, and room for so many
+-- entries.
+pub record IsOwnOf {R : Type 0} (shape : Shape) (pages : List Content) (start : ℕ) (firsts : List model.Actor) (archive : Bool)
+    (new_followers : List (Following R)) (lines : ℕ) (own : Own R) : Type 0 where
+  pub layout : own.words.layout ≡ shape_layout shape
+  pub bytes : HoldBytes shape pages
+  pub first : own.words.words ≡ flat (first_words shape.page_size start pages)
+  pub words : (c : Setup) → StartsOn start shape pages c → AreStartWords own.words.words c
+  pub lists : own.lists ≡ empty_lists shape.pages
+  pub actors : views_of own.actors.items ≡ firsts
+  pub readers : EndsWithReaders start archive own.actors.items new_followers
+  pub no_entries : own.entries.items ≡ []
+  pub room : lines ≤ vec_capacity own.entries
+
+-- the run as it begins with that on a store
+abbrev pub begun_on : {L D R : Type 0} → Opened L D → Own R → Beginning L D R
+begun_on opened own = record {
+  parts = record { words = own.words; log = opened.log; store = opened.store; lists = own.lists };
+  actors = own.actors;
+  entries = own.entries;
+}
+
+-- there was memory for it, and the run begins so
+abbrev pub BeginsSo : {L D R E : Type 0} → Opened L D → Result (Own R) E → Beginning L D R → Type 0
+BeginsSo opened (Ok own) start = start ≡ begun_on opened own
+BeginsSo opened (Err e) start = ⊥
 
 -- The store stands as the invariant wants it at the start: words, parts and actors, and no page is listed.
 pub record IsAtStart {L D R : Type 0} (log_seen : L → Seen) (data_seen : D → Seen) (run : RunOf L D) (start : Beginning L D R) : Type 0 where
@@ -33,7 +82,7 @@ pub record IsAtStart {L D R : Type 0} (log_seen : L → Seen) (data_seen : D →
 -- PARTS AND ACTORS STAND AT THE BEGINNING of the run of this script on this store, a live one or not, with an archiver or
 -- without, and with these followers. With the log alone or with the pages, these are the actors with which it begins.
 pub record BeginsOn {L D R : Type 0} (log_seen : L → Seen) (data_seen : D → Seen) (stands_for : R → List Given → Type 0) (opened : Opened L D)
-    (script : List ScriptLine) (live log_only archive : Bool) (new_followers : List (Following R)) (firsts : (log_only : Bool) → List Actor)
+    (script : List ScriptLine) (live log_only archive : Bool) (new_followers : List (Following R)) (firsts : (log_only : Bool) → List model.Actor)
     (start : Beginning L D R) : Type 0 where
   pub run : RunOf L D
   pub is_run : IsRunWith opened script live log_only archive (length new_followers) run

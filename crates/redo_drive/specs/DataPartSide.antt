@@ -2,16 +2,15 @@
 use Rattle.std.specs.Prelude.{List, [], OnOk, Result, is_some, length, ℕ, ◌*◌, ◌≡◌, ◌≤◌}
 use Rattle.model_base.specs.{user_length}
 use Rattle.model_base.specs.declared.shape.Shape.{Shape}
-use Rattle.model_core.specs.DataSide.{DataSide}
-use Rattle.model_core.specs.{BatchPage, KeptPage}
+use Rattle.model_core.specs.{DataSide, BatchPage, KeptPage}
 use Rattle.model_parts.specs.{after_batch, batch_of, IsLater}
 use Rattle.model_running.specs.{contents_of}
 use Rattle.model_page.specs.declared.content.Content.{Content}
-use Rattle.redo_disk.specs.Seen.{Seen}
+use Rattle.redo_disk.specs.{Seen}
 use Rattle.redo_disk.specs.declared.error.DevError.{DevError}
 pub use Rattle.redo_drive.specs.Asking.{fresh_batch, fresh_page}
-use Rattle.redo_drive.specs.Devices.{call_code}
-use Rattle.redo_drive.specs.Failures.{HasFailedBy}
+use Rattle.redo_drive.specs.Asking.{call_code}
+use Rattle.redo_drive.specs.Calls.{HasFailedBy}
 use Rattle.redo_drive.specs.declared.device.Device.TheVariants.{Data}
 use Rattle.redo_store.specs.{PartKeeps, PartStep, PartStores}
 use Rattle.redo_store.specs.Part.{Part}

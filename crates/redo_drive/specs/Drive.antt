@@ -1,17 +1,14 @@
 -- What every drive owes of its run, from the opened store to the closed one.
 use Rattle.std.specs.Prelude.{IfSome, List, None, Some, ℕ, ◌+◌, ◌<◌, ◌≡◌, ◌≢◌, ◌⊎◌}
-use Rattle.model_device.specs.{synced}
-use Rattle.model_device.specs.Disk.{Disk}
+use Rattle.model_device.specs.{synced, Disk}
 use Rattle.model_running.specs.{LeavesOpen}
 use Rattle.model_report.specs.{IsLeft}
 use Rattle.model_log.specs.{start_after}
 use Rattle.model_theorem.specs.{IsClosed, IsHeld, IsRun, IsStart, LosesOnlyByFailure, opened_as, Ran}
 use Rattle.model_script.specs.declared.script.ScriptLine.{ScriptLine}
 use Rattle.model_parts.specs.{numbers_taken}
-use Rattle.model_store.specs.{IsReading}
-use Rattle.model_store.specs.Reading.{Reading}
-use Rattle.redo_disk.specs.{Call, failures}
-use Rattle.redo_disk.specs.Seen.{Seen}
+use Rattle.model_store.specs.{IsReading, Reading}
+use Rattle.redo_disk.specs.{Call, failures, Seen}
 use Rattle.redo_disk.specs.declared.error.DevError.TheVariants.{NoMemory}
 use Rattle.redo_drive.specs.Startable.{HasReading}
 use Rattle.redo_drive.specs.Calls.{CallsOn}

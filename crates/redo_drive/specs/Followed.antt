@@ -6,12 +6,12 @@ use Rattle.model_log.specs.{group_text, IsBoundary}
 use Rattle.model_log.specs.declared.group.Whole.{Whole}
 use Rattle.model_report.specs.{entry_spans, wholes_of}
 use Rattle.model_script.specs.declared.script.ScriptLine.{ScriptLine}
-use Rattle.redo_disk.specs.Seen.{Seen}
+use Rattle.redo_disk.specs.{Seen}
 use Rattle.redo_drive.specs.Drive.{WhereStarted}
-use Rattle.redo_drive.specs.Views.{followers_in}
+use Rattle.redo_drive.specs.History.{followers_in}
 use Rattle.redo_drive.specs.declared.actor.Actor.{Actor}
 use Rattle.redo_drive.specs.declared.closed.Closed.{Closed}
-use Rattle.redo_follow.specs.Handing.{StandsFor}
+use Rattle.redo_follow.specs.{StandsFor}
 use Rattle.redo_follow.specs.Following.{Following}
 use Rattle.redo_store.specs.declared.opened.Opened.{Opened}
 

@@ -1,21 +1,19 @@
 -- The log part as the running store sees it.
 use Rattle.std.specs.Prelude.{IfSome, List, [], None, OnOk, is_some, ℕ, ◌%◌, ◌+◌, ◌/◌, ◌^◌, ◌<◌, ◌≡◌, ◌≢◌, ◌≤◌}
 use Rattle.model_base.specs.declared.limits.TheConstants.{BLOCK_SIZE}
-use Rattle.model_core.specs.{Entry, lsn}
-use Rattle.model_core.specs.LogSide.{LogSide}
+use Rattle.model_core.specs.{Entry, lsn, LogSide}
 use Rattle.model_running.specs.{AreWholesOf}
-use Rattle.model_parts.specs.{after_asked, after_checkpoint, after_given, after_synced, after_written, next_number, tails_synced, tails_written}
+use Rattle.model_parts.specs.{after_asked, after_checkpoint, after_given, after_synced, after_written, next_number, tails_synced, tails_written, IsFullBlock}
 use Rattle.model_parts.specs.declared.marks.LogMarks.{LogMarks}
 use Rattle.model_log.specs.declared.group.Whole.{Whole}
-use Rattle.redo_disk.specs.Seen as device
-use Rattle.redo_disk.specs.Seen.{Seen, StillTells}
-use Rattle.redo_drive.specs.Failures.{HasFailedBy}
-use Rattle.redo_drive.specs.TurnSides.{LogCalled}
+use Rattle.redo_disk.specs.Sight as device
+use Rattle.redo_disk.specs.{Seen, StillTells}
+use Rattle.redo_drive.specs.Calls.{HasFailedBy}
+use Rattle.redo_drive.specs.Asking.{LogCalled}
 use Rattle.redo_drive.specs.declared.device.Device.TheVariants.{Log}
 use Rattle.redo_logdev.specs.{block_place, GivesBlock, KeepsHolding, KeepsNumbered, KeepsWriting, PartHolds}
 use Rattle.redo_logdev.specs.Part.{Part}
 use Rattle.model_log.specs.{IsBoundary, run_layout, spans_of}
-use Rattle.model_parts.specs.Held.{IsFullBlock}
 
 -- Its number goes round only after more checkpoints than a log below the limit has room for.
 abbrev pub HasFewCheckpoints : LogMarks → Type 0

@@ -1,14 +1,14 @@
 -- What an actor makes of an answer, and what a follower's receiver gets by it.
 use Rattle.std.specs.Prelude.{List, [], cond, false, None, Option, Some, true, ℕ, ◌≡◌}
-use Rattle.model_core.specs.Actors as model
+use Rattle.model_core.specs.States as model
 use Rattle.model_core.specs.{archives, filled, Filling, Fills, Given, reader_holds, step_of, took}
 use Rattle.model_core.specs.declared.ops.Answer.{Answer}
 use Rattle.model_core.specs.declared.ops.Step.{Step}
 use Rattle.model_running.specs.ReadHalf.{handed}
-use Rattle.redo_drive.specs.Views.{view_of}
+use Rattle.redo_drive.specs.History.{view_of}
 use Rattle.redo_drive.specs.declared.actor.Actor.{Actor}
 use Rattle.redo_drive.specs.declared.actor.Actor.TheVariants as own
-use Rattle.redo_follow.specs.Handing.{FollowerFits, StandsFor}
+use Rattle.redo_follow.specs.{FollowerFits, StandsFor}
 use Rattle.redo_follow.specs.Following.{Following}
 
 -- the follower, if the actor is one

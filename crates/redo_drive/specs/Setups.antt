@@ -1,16 +1,68 @@
--- The actors of the run of a script on a store, as it begins.
-use Rattle.std.specs.Prelude.{Bool, List, [], cond, false, length, map, suc, true, zero, ℕ, ◌++◌, ◌+◌, ◌==◌, ◌∷◌}
+-- The words with which a run begins, and the actors of the run of a script on a store, as it begins.
+use Rattle.std.specs.Prelude.{List, [], drop, false, map, replicate, slice_set, suc, take, zero, ℕ, ◌%◌, ◌++◌, ◌-◌, ◌/◌, ◌∷◌, Bool, cond, length, true, ◌+◌, ◌==◌}
+use Rattle.model_base.specs.declared.limits.TheConstants.{BLOCK_SIZE, PAGE_TRAILER, USER_START}
+use Rattle.model_core.specs.{frame_words, packed, PageWords, SharedWords, Actor, collected, Line, new_checkpointer, new_cleaner, new_closer, new_flusher, new_reader, new_user, new_writer, line_of, UserState}
+use Rattle.model_core.specs.declared.limits.TheConstants.{BUFFER_BLOCKS, BUFFER_WORDS, CLOSED_LINKS, FLUSH_LISTS, READERS, WORD_LANES, WRITTEN_LINKS}
+use Rattle.model_log.specs.{sn_of, run_layout}
+use Rattle.model_log.specs.declared.layout.TheConstants.{BLOCK_HEADER}
+use Rattle.model_page.specs.declared.content.Content.{Content}
 use Rattle.model_base.specs.declared.shape.Shape.{Shape}
-use Rattle.model_core.specs.{Actor, collected, Line, new_checkpointer, new_cleaner, new_closer, new_flusher, new_reader, new_user, new_writer, UserState}
-use Rattle.model_core.specs.Actors as actor
+use Rattle.model_core.specs.States as actor
 use Rattle.model_report.specs.{lines_of_user}
-use Rattle.model_log.specs.{run_layout}
 use Rattle.model_log.specs.declared.rec.Rec.{Rec}
 use Rattle.model_script.specs.{group_of}
 use Rattle.model_script.specs.declared.misfit.TheConstants.{MAX_USERS}
 use Rattle.model_script.specs.declared.script.ScriptLine.{ScriptLine}
 use Rattle.redo_drive.specs.declared.seating.TheConstants.{FIRST_FOLLOWER}
-use Rattle.redo_useractor.specs.{program_lines}
+
+unfoldable pub zeros : ℕ → List ℕ
+zeros n = replicate n 0
+
+-- the cells of a page: its user bytes, and 0 before and after them, where the running store keeps nothing
+unfoldable pub page_cells : List ℕ → List ℕ
+page_cells user = replicate USER_START 0 ++ user ++ replicate PAGE_TRAILER 0
+
+-- these bytes as so many words, eight in each
+abbrev pub packed_words : ℕ → List ℕ → List ℕ
+packed_words zero bytes = []
+packed_words (suc n) bytes = packed 0 (take WORD_LANES bytes) ∷ packed_words n (drop WORD_LANES bytes)
+
+-- the words of the frame of a page of so many bytes
+unfoldable pub page_frame : ℕ → List ℕ → List ℕ
+page_frame page_size user = packed_words (frame_words page_size) (page_cells user)
+
+-- up to where the readers of the log have it as the run begins: the archiver up to the block of the start, and each
+-- follower up to the start
+abbrev pub first_places : ℕ → List ℕ
+first_places start = (start - BLOCK_HEADER) ∷ replicate (READERS - 1) start
+
+-- a page that is free and in no list, with these words as its frame
+abbrev pub free_page : List ℕ → PageWords
+free_page frame = record { latch = 0; newest = 0; oldest = 0; frame = frame }
+
+-- The words by name: up to the start, an lsn, all is written and flushed, a block's header below it stands the newest
+-- checkpoint, nothing is linked or held, and each page, of so many
+-- bytes, is free and as it was opened.
+abbrev pub first_words : ℕ → ℕ → List Content → SharedWords
+first_words page_size start pages = record {
+  sn = sn_of start;
+  write = start;
+  wtail = start;
+  wheld = false;
+  flushed = start;
+  ckpt = start - BLOCK_HEADER;
+  ctail = start;
+  cheld = false;
+  failed = 0;
+  device = 0;
+  lists = zeros FLUSH_LISTS;
+  wlinks = zeros WRITTEN_LINKS;
+  clinks = zeros CLOSED_LINKS;
+  cells = zeros BUFFER_WORDS;
+  firsts = slice_set (zeros BUFFER_BLOCKS) (start / BLOCK_SIZE % BUFFER_BLOCKS) BLOCK_HEADER;
+  places = first_places start;
+  page_words = map (λ (page : Content). free_page (page_frame page_size page.user)) pages;
+}
 
 -- the lines of a user, each a mode and a group
 abbrev pub user_lines : (space : ℕ) → List ScriptLine → (user : ℕ) → List (ℕ × List Rec)
@@ -18,7 +70,8 @@ user_lines space script user = map (λ (line : ScriptLine). (line.mode, group_of
 
 -- the lines of each user, as its program has them
 abbrev pub programs_of : Shape → (log_only : Bool) → List ScriptLine → ℕ → List Line
-programs_of shape log_only script user = program_lines log_only shape (user_lines shape.space script user)
+programs_of shape log_only script user =
+    map (λ (line : ℕ × List Rec). line_of log_only shape line.0 line.1) (user_lines shape.space script user)
 
 -- the user of a number, if it has lines
 abbrev pub user_of : (blocks : ℕ) → (ℕ → List Line) → (user : ℕ) → List UserState
@@ -60,11 +113,6 @@ other_actors shape start log_only archive followers =
     actor.Writer (new_writer (run_layout shape).blocks start) ∷ actor.Flusher (new_flusher start)
     ∷ page_actors shape start log_only archive followers
 
--- the actors of the run that have their seats before the readers of the log
-abbrev pub seated_before : Shape → List ScriptLine → (start : ℕ) → (log_only archive : Bool) → (followers : ℕ) → List Actor
-seated_before shape script start log_only archive followers =
-    map actor.User (users_of shape log_only script) ++ other_actors shape start log_only archive followers
-
 -- all actors in their seats, with nothing done: behind these users the others, and the readers of the log come last
 abbrev pub with_others : (users : List Actor) → Shape → (start : ℕ) → (log_only archive : Bool) → (followers : ℕ) → List Actor
 with_others users shape start log_only archive followers =
@@ -74,7 +122,3 @@ with_others users shape start log_only archive followers =
 abbrev pub seated_actors : Shape → List ScriptLine → (start : ℕ) → (log_only archive : Bool) → (followers : ℕ) → List Actor
 seated_actors shape script start log_only archive followers =
     with_others (map actor.User (users_of shape log_only script)) shape start log_only archive followers
-
--- the same where nothing is archived
-abbrev pub start_actors : Shape → List ScriptLine → (start : ℕ) → (log_only : Bool) → (followers : ℕ) → List Actor
-start_actors shape script start log_only followers = seated_actors shape script start log_only false followers

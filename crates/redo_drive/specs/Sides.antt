@@ -1,12 +1,9 @@
 -- A run, and a running store of it as the definition of a turn sees it.
 use Rattle.std.specs.Prelude.{Bool, List}
 use Rattle.model_base.specs.declared.shape.Shape.{Shape}
-use Rattle.model_core.specs.Actors as model
-use Rattle.model_core.specs.{Core, lsn}
-use Rattle.model_core.specs.DataSide.{DataSide}
-use Rattle.model_core.specs.LogSide.{LogSide}
-use Rattle.model_core.specs.Setup.{Setup}
-use Rattle.redo_disk.specs.Seen.{Seen}
+use Rattle.model_core.specs.States as model
+use Rattle.model_core.specs.{Core, lsn, DataSide, LogSide, Setup}
+use Rattle.redo_disk.specs.{Seen}
 use Rattle.redo_drive.specs.DataPartSide as data_part
 use Rattle.redo_drive.specs.Lists.{lists_of}
 use Rattle.redo_drive.specs.LogPartSide as log_part

@@ -1,20 +1,21 @@
 -- The words of a store as a run begins on its pages, and what never changes in the run.
-use Rattle.std.specs.Prelude.{Bool, List, Some, get_or, length, slice_get, slice_index, slice_set, ℕ, ◌%◌, ◌+◌, ◌-◌, ◌/◌, ◌<◌, ◌≡◌, ◌≤◌, false, if◌then◌else◌}
+use Rattle.std.specs.Prelude.{Bool, List, Some, get_or, length, slice_get, slice_index, slice_set, ℕ, ◌%◌, ◌+◌, ◌-◌, ◌/◌, ◌<◌, ◌≡◌, ◌≤◌, false, if◌then◌else◌, drop, take, ◌*◌}
 use Rattle.model_base.specs.declared.limits.TheConstants.{BLOCK_SIZE}
-use Rattle.model_core.specs.{flat, IsSized, KeptPage, lsn, page_words_at, SharedWords, with_page_words}
-use Rattle.model_core.specs.Setup.{Setup}
-use Rattle.model_core.specs.StartWords.{StartPageWords, StartWords}
-use Rattle.model_core.specs.declared.limits.TheConstants.{BUFFER_BLOCKS}
+use Rattle.model_core.specs.{flat, IsSized, KeptPage, lsn, page_words_at, SharedWords, with_page_words, packed, Setup, StartPageWords, StartWords}
+use Rattle.model_core.specs.declared.limits.TheConstants.{BUFFER_BLOCKS, WORD_LANES}
 use Rattle.model_log.specs.{run_layout, sn_of}
 use Rattle.model_log.specs.declared.layout.TheConstants.{BLOCK_HEADER}
 use Rattle.model_page.specs.{blank_page}
 use Rattle.model_page.specs.declared.content.Content.{Content}
 use Rattle.model_base.specs.declared.shape.Shape.{Shape}
 use Rattle.model_script.specs.declared.script.ScriptLine.{ScriptLine}
-use Rattle.redo_drive.specs.FirstWords.{first_places, page_cells}
-use Rattle.redo_drive.specs.Setups.{first_reader, programs_of}
+use Rattle.redo_drive.specs.Setups.{first_places, page_cells, first_reader, programs_of}
 use Rattle.redo_drive.specs.declared.seating.TheConstants.{FIRST_FOLLOWER}
 use Rattle.redo_words.specs.Plain.{Plain}
+
+-- one of the words into which a page's cells are packed
+unfoldable pub cells_word : List ℕ → ℕ → ℕ
+cells_word user q = packed 0 (take WORD_LANES (drop (WORD_LANES * q) (page_cells user)))
 
 -- a page as the running store keeps it
 abbrev pub kept_page_of : Content → KeptPage

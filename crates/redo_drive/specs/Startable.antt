@@ -12,9 +12,9 @@ use Rattle.model_log.specs.declared.layout.TheConstants.{BLOCK_HEADER}
 use Rattle.model_parts.specs.{numbers_taken, start_of}
 use Rattle.model_script.specs.{ArchiveFits, IsScriptLine, round_end, ScriptFits}
 use Rattle.model_script.specs.declared.script.ScriptLine.{ScriptLine}
-use Rattle.model_store.specs.Reading.{Reading}
+use Rattle.model_store.specs.{Reading}
 use Rattle.redo_archive.specs.Part.{Part}
-use Rattle.redo_disk.specs.Seen.{Seen}
+use Rattle.redo_disk.specs.{Seen}
 use Rattle.redo_drive.specs.declared.seating.TheConstants.{FIRST_FOLLOWER}
 use Rattle.redo_follow.specs.Following.{Following}
 use Rattle.redo_store.specs.{IsRunnable}

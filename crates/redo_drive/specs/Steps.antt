@@ -1,7 +1,7 @@
 -- How many steps of an actor come to nothing.
 use Rattle.std.specs.Prelude.{ℕ, ◌*◌, ◌+◌, ◌-◌}
 use Rattle.model_core.specs.{frame_words}
-use Rattle.model_core.specs.Actors as model
+use Rattle.model_core.specs.States as model
 use Rattle.model_core.specs.declared.limits.TheConstants.{FLUSH_LISTS}
 
 -- how many steps an actor takes at most from one wait to the next where it comes to nothing

@@ -1,10 +1,10 @@
 // The actors of a running store.
 ghost use Rattle.std.specs.Prelude.{MatchOption, None, Some, ◌≡◌, ◌≢◌};
 ghost use Rattle.model_core.specs.{UserState};
-ghost use Rattle.model_core.specs.Actors as model;
+ghost use Rattle.model_core.specs.States as model;
 ghost use Rattle.redo_drive.specs.Receiving.{follower_of};
 ghost use Rattle.redo_drive.specs.Steps.{steps_in_vain};
-ghost use Rattle.redo_drive.specs.Views.{view_of};
+ghost use Rattle.redo_drive.specs.History.{view_of};
 
 use model_core::FLUSH_LISTS;
 use redo_archiver::Archiver;

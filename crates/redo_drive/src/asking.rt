@@ -1,9 +1,8 @@
 // What all actors have in common.
 ghost use Rattle.std.specs.Prelude.{◌≡◌};
-ghost use Rattle.model_core.specs.AnswerFits.{AnswerFits};
-ghost use Rattle.model_core.specs.{lent, next};
+ghost use Rattle.model_core.specs.{AnswerFits, lent, next};
 ghost use Rattle.redo_drive.specs.Receiving.{HasTaken, MarkFits};
-ghost use Rattle.redo_drive.specs.Views.{view_of};
+ghost use Rattle.redo_drive.specs.History.{view_of};
 ghost use Rattle.redo_words.specs.{Lends};
 
 use crate::actor::Actor;

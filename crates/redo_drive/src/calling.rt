@@ -1,17 +1,15 @@
 // The calls of both device parts, as the running store makes them.
 ghost use Rattle.std.specs.Prelude.{◌≡◌, None, ℕ};
 ghost use Rattle.model_base.specs.declared.shape.Shape.{Shape};
-ghost use Rattle.model_core.specs.Actors as model;
+ghost use Rattle.model_core.specs.States as model;
 ghost use Rattle.model_core.specs.{DataServed, KeptPage, LogServed};
 ghost use Rattle.model_core.specs.declared.ops.Op.TheVariants as op;
 ghost use Rattle.model_parts.specs.{MayBeNext};
 ghost use Rattle.redo_disk.specs.{EndWith, MakesCalls, Serve, error_of};
-ghost use Rattle.redo_drive.specs.Asking.{lent_pages, lent_writes};
+ghost use Rattle.redo_drive.specs.Asking.{lent_pages, lent_writes, checkpoint_requests, read_requests, sync_requests, call_code};
 ghost use Rattle.redo_drive.specs.DataPartSide as data_part;
-ghost use Rattle.redo_drive.specs.Devices.{call_code};
 ghost use Rattle.redo_drive.specs.LogPartSide as log_part;
-ghost use Rattle.redo_drive.specs.Playing.{HasWholePages, MayBatchLent, MayWriteLent};
-ghost use Rattle.redo_drive.specs.Requests.{checkpoint_requests, read_requests, sync_requests};
+ghost use Rattle.redo_drive.specs.Running.{HasWholePages, MayBatchLent, MayWriteLent};
 ghost use Rattle.redo_drive.specs.declared.device.Device.TheVariants as device;
 ghost use Rattle.redo_logdev.specs.{MayRead};
 ghost use Rattle.redo_logdev.specs.Part as log_dev;

@@ -1,9 +1,8 @@
 // That the data part meets the laws by which the running store speaks of it, and what its device holds of a run.
 ghost use Rattle.std.specs.Prelude.{ℕ, List, Some, slice_get, ◌≡◌, ◌<◌};
 ghost use Rattle.model_base.specs.declared.shape.Shape.{Shape};
-ghost use Rattle.model_core.specs.{BatchPage, KeptPage};
-ghost use Rattle.model_core.specs.Setup.{Setup};
-ghost use Rattle.model_device.specs.Disk.{Disk};
+ghost use Rattle.model_core.specs.{BatchPage, KeptPage, Setup};
+ghost use Rattle.model_device.specs.{Disk};
 ghost use Rattle.model_running.specs.{ArePrefixes, content_in, contents_of, DataTells, HasItsPages};
 ghost use Rattle.model_page.specs.declared.content.Content.{Content};
 ghost use Rattle.model_pagecore.specs.{AreApart};

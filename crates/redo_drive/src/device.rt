@@ -1,8 +1,8 @@
 // Both devices of a store, and how a call of one is answered.
 ghost use Rattle.std.specs.Prelude.{◌≡◌};
 ghost use Rattle.redo_disk.specs.{error_of};
-ghost use Rattle.redo_drive.specs.Devices.{code_of};
-ghost use Rattle.redo_drive.specs.Failures.{call_answer};
+ghost use Rattle.redo_drive.specs.Asking.{code_of};
+ghost use Rattle.redo_drive.specs.Calls.{call_answer};
 
 use redo_disk::DevError;
 use redo_words::Answer;

@@ -1,10 +1,9 @@
 // The history of a run.
-ghost use Rattle.std.specs.Prelude.{ℕ, [], ◌++◌, ◌+◌, ◌≡◌, ◌<◌, ◌≤◌, if◌then◌else◌, length, nat_lt, slice_index, slice_index_or, vec_capacity};
+ghost use Rattle.std.specs.Prelude.{ℕ, [], ◌++◌, ◌+◌, ◌≡◌, ◌<◌, ◌≤◌, if◌then◌else◌, length, nat_lt, slice_index, slice_index_or, true, vec_capacity};
 ghost use Rattle.model_report.specs.{state_by};
 ghost use Rattle.model_report.specs.declared.entry.State.TheVariants as state;
-ghost use Rattle.redo_drive.specs.History.{ListsInOrder, all_listed, listed, listed_from};
-ghost use Rattle.redo_drive.specs.Reserved.{HasGroups, HasReserved, listed_group};
-ghost use Rattle.redo_drive.specs.Views.{view_of, views_of};
+ghost use Rattle.redo_drive.specs.History.{ListsInOrder, all_listed, listed, listed_from, view_of, views_of};
+ghost use Rattle.redo_drive.specs.Reserved.{HasGroups, HasReserved, KeepsAll, listed_group};
 
 use crate::actor::Actor;
 use model_report::{Entry, History, Marks, State};
@@ -27,6 +26,7 @@ fn state_by(marks: &Marks, end: u64) -> State
 
 /// How the commit of a user's group stands, which ends at this lsn. One that isn't answered is lost.
 fn state_of(user: &UserActor, k: usize, marks: &Marks, end: u64) -> State
+    requires { user.now.keeps ≡ true }
     ensures { result ≡ (if nat_lt k user.now.k then state_by marks.now end else state.Lost) }
 {
     if k < user.answered_count() {
@@ -38,7 +38,8 @@ fn state_of(user: &UserActor, k: usize, marks: &Marks, end: u64) -> State
 
 /// A group of a user, as the history has it.
 fn entry_of(user: &UserActor, k: usize, marks: &Marks) -> Entry
-    requires { HasReserved user.now k }
+    requires keeps { user.now.keeps ≡ true }
+    requires reserved { HasReserved user.now k }
     ensures { result ≡ listed_group marks.now user.now k (slice_index user.now.starts k) }
 {
     let start = user.group_start(k);
@@ -54,7 +55,8 @@ fn entry_of(user: &UserActor, k: usize, marks: &Marks) -> Entry
 
 /// Adds the groups of a user, as far as there is room.
 fn add_user(entries: &mut Vec<Entry>, user: &UserActor, marks: &Marks)
-    requires { (k : ℕ) → k < length user.now.starts → HasReserved user.now k }
+    requires keeps { user.now.keeps ≡ true }
+    requires reserved { (k : ℕ) → k < length user.now.starts → HasReserved user.now k }
     ensures capacity { vec_capacity entries.new ≡ vec_capacity entries.old }
     ensures added { length entries.old.items + length user.now.starts ≤ vec_capacity entries.old
         → entries.new.items ≡ entries.old.items ++ listed_from marks.now user.now 0 user.now.starts }
@@ -66,27 +68,28 @@ fn add_user(entries: &mut Vec<Entry>, user: &UserActor, marks: &Marks)
     }
 }
 
-/// Adds the groups of an actor, as far as there is room.
+/// Adds the groups of an actor, as far as there is room, unless it is a user that can't tell them all.
 fn add_actor<R: Receiver>(entries: &mut Vec<Entry>, actor: &Actor<R>, marks: &Marks)
     requires { HasGroups (view_of actor.now) }
     ensures capacity { vec_capacity entries.new ≡ vec_capacity entries.old }
-    ensures added { length entries.old.items + length (listed marks.now (view_of actor.now)) ≤ vec_capacity entries.old
+    ensures added { KeepsAll (view_of actor.now) → length entries.old.items + length (listed marks.now (view_of actor.now)) ≤ vec_capacity entries.old
         → entries.new.items ≡ entries.old.items ++ listed marks.now (view_of actor.now) }
 {
     match actor.user() {
-        Some(user) => add_user(entries, user, marks),
-        None => {}
+        Some(user) if user.keeps_all() => add_user(entries, user, marks),
+        _ => {}
     }
 }
 
-/// The groups of all actors in lsn order, in a vector that has room for them.
+/// The groups of all actors in lsn order, in a vector that has room for them. A user that can't tell all its groups adds none.
 pub fn history_of<R: Receiver>(
     mut entries: Vec<Entry>,
     actors: &[Actor<R>],
     marks: &Marks,
 ) -> History
     requires { (seat : ℕ) (actor : Actor R) → seat < length actors.now → HasGroups (view_of (slice_index_or actors.now seat actor)) }
-    ensures { entries.items ≡ [] → length (all_listed marks.now (views_of actors.now)) ≤ vec_capacity entries
+    ensures { ((seat : ℕ) (actor : Actor R) → seat < length actors.now → KeepsAll (view_of (slice_index_or actors.now seat actor)))
+        → entries.items ≡ [] → length (all_listed marks.now (views_of actors.now)) ≤ vec_capacity entries
         → ListsInOrder marks.now (views_of actors.now) result }
 {
     for actor in actors {

@@ -2,9 +2,8 @@
 ghost use Rattle.std.specs.Prelude.{◌≡◌, ◌≤◌, ◌<◌, IfErr, IfOk, [], false};
 ghost use Rattle.model_base.specs.declared.limits.TheConstants.{LSN_LIMIT};
 ghost use Rattle.model_script.specs.declared.misfit.TheConstants.{MAX_USERS};
-ghost use Rattle.redo_drive.specs.Begins.{BeginsLive};
+ghost use Rattle.redo_drive.specs.Begins.{BeginsLive, IsOwnOf};
 ghost use Rattle.redo_drive.specs.LiveActors.{live_actors};
-ghost use Rattle.redo_drive.specs.Making.{IsOwnOf};
 ghost use Rattle.redo_store.specs.{IsRunnable};
 
 use crate::making::{Beginning, begin_on};

@@ -2,13 +2,11 @@
 // and that the device holds what the part does, of a shape that stays.
 ghost use Rattle.std.specs.Prelude.{List, Some, ℕ, ◌≡◌};
 ghost use Rattle.model_base.specs.declared.shape.Shape.{Shape};
-ghost use Rattle.model_core.specs.{Actor, Lent, LogServed, SharedWords};
-ghost use Rattle.model_core.specs.Setup.{Setup};
+ghost use Rattle.model_core.specs.{Actor, Lent, LogServed, SharedWords, Setup};
 ghost use Rattle.model_core.specs.declared.ops.Op.{Op};
-ghost use Rattle.model_device.specs.Disk.{Disk};
+ghost use Rattle.model_device.specs.{Disk};
 ghost use Rattle.model_running.specs.{LogTells};
-ghost use Rattle.model_logcore.specs.{LogGhost, LogWatermarks};
-ghost use Rattle.model_logcore.specs.LogHalf.{LogHalf};
+ghost use Rattle.model_logcore.specs.{LogGhost, LogWatermarks, LogHalf};
 ghost use Rattle.model_logcore.specs.LogLaws.{LogLaws};
 ghost use Rattle.redo_logdev.specs.Part.{Part};
 ghost use Rattle.redo_drive.specs.LogPartSide.{HasBegun, log_side};

@@ -1,8 +1,7 @@
 // A run as it begins.
 ghost use Rattle.std.specs.Prelude.{◌≡◌, IfErr, IfOk, length};
 ghost use Rattle.redo_drive.specs.Startable.{AreNewFollowers, MayBegin};
-ghost use Rattle.redo_drive.specs.Begins.{BeginsRun, BeginsWith};
-ghost use Rattle.redo_drive.specs.Making.{BeginsSo, IsOwnOf};
+ghost use Rattle.redo_drive.specs.Begins.{BeginsRun, BeginsWith, BeginsSo, IsOwnOf};
 ghost use Rattle.redo_drive.specs.Setups.{seated_actors};
 
 use crate::actor::Actor;

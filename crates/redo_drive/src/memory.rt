@@ -5,10 +5,10 @@ ghost use Rattle.model_base.specs.declared.limits.TheConstants.{START_LSN};
 ghost use Rattle.model_log.specs.{IsAtDataStart};
 ghost use Rattle.model_log.specs.declared.layout.TheConstants.{BLOCK_HEADER};
 ghost use Rattle.redo_apply.specs.{ArePagesOf};
-ghost use Rattle.redo_drive.specs.Making.{IsOwnOf};
+ghost use Rattle.redo_drive.specs.Begins.{IsOwnOf};
 ghost use Rattle.redo_drive.specs.Setups.{with_others};
 ghost use Rattle.redo_drive.specs.Startable.{AreNewFollowers};
-ghost use Rattle.redo_drive.specs.Views.{views_of};
+ghost use Rattle.redo_drive.specs.History.{views_of};
 
 use crate::actor::Actor;
 use crate::lists::FlushLists;

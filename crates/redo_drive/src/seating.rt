@@ -4,10 +4,10 @@ ghost use Rattle.model_base.specs.{IsWithinLimits};
 ghost use Rattle.model_core.specs.declared.limits.TheConstants.{READERS};
 ghost use Rattle.model_log.specs.{IsAtDataStart};
 ghost use Rattle.model_base.specs.declared.limits.TheConstants.{FIRST_DATA_LSN};
-ghost use Rattle.redo_drive.specs.Making.{EndsWithReaders, new_archiver};
+ghost use Rattle.redo_drive.specs.Begins.{EndsWithReaders, new_archiver};
 ghost use Rattle.redo_drive.specs.Setups.{first_reader, other_actors, with_others};
 ghost use Rattle.redo_drive.specs.Startable.{AreNewFollowers};
-ghost use Rattle.redo_drive.specs.Views.{views_of};
+ghost use Rattle.redo_drive.specs.History.{views_of};
 ghost use Rattle.redo_drive.specs.declared.actor.Actor.TheVariants as own;
 ghost use Rattle.redo_drive.specs.declared.seating.TheConstants.{FIRST_FOLLOWER};
 

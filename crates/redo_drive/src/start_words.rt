@@ -1,13 +1,12 @@
 // The words of a store as a run begins.
 ghost use Rattle.std.specs.Prelude.{◌<◌, ◌^◌, ◌≡◌, ◌≤◌, ℕ, IfOk, length, slice_index};
 ghost use Rattle.model_base.specs.{IsWithinLimits};
-ghost use Rattle.model_core.specs.{frame_words, IsWord, SharedWords, flat, wrote};
-ghost use Rattle.model_core.specs.Setup.{Setup};
+ghost use Rattle.model_core.specs.{frame_words, IsWord, SharedWords, flat, wrote, Setup};
 ghost use Rattle.model_log.specs.{IsAtDataStart};
 ghost use Rattle.redo_apply.specs.{ArePagesOf};
-ghost use Rattle.redo_drive.specs.FirstWords.{cells_word, first_places, first_words, page_frame};
+ghost use Rattle.redo_drive.specs.Setups.{first_places, first_words, page_frame};
+ghost use Rattle.redo_drive.specs.StartWords.{cells_word, AreNamed, AreStartWords, HoldBytes, IsBlankFrame, StartsOn, with_frame, with_log};
 ghost use Rattle.redo_words.specs.{shape_layout};
-ghost use Rattle.redo_drive.specs.StartWords.{AreNamed, AreStartWords, HoldBytes, IsBlankFrame, StartsOn, with_frame, with_log};
 
 use model_base::{BLOCK_SIZE, MAX_PAGE_SIZE, Shape, USER_START};
 use model_core::{BUFFER_BLOCKS, READERS, WORD_LANES};

@@ -2,14 +2,14 @@
 ghost use Rattle.std.specs.Prelude.{◌≡◌, ◌≤◌, ◌+◌, [], IfOk, map};
 ghost use Rattle.std.specs.List.{AllByRecursion};
 ghost use Rattle.model_base.specs.{IsWithinLimits};
-ghost use Rattle.model_core.specs.Actors as actor;
+ghost use Rattle.model_core.specs.States as actor;
 ghost use Rattle.model_core.specs.declared.limits.TheConstants.{READERS};
 ghost use Rattle.model_log.specs.{run_layout};
 ghost use Rattle.model_script.specs.{IsScriptLine, LineFits};
 ghost use Rattle.model_script.specs.declared.misfit.TheConstants.{MAX_USERS};
 ghost use Rattle.redo_drive.specs.LiveActors.{idle_users};
 ghost use Rattle.redo_drive.specs.Setups.{user_lines, users_of};
-ghost use Rattle.redo_drive.specs.Views.{views_of};
+ghost use Rattle.redo_drive.specs.History.{views_of};
 ghost use Rattle.redo_drive.specs.declared.seating.TheConstants.{FIRST_FOLLOWER};
 
 use crate::actor::Actor;

@@ -5,7 +5,7 @@ use Rattle.std.specs.Prelude.{IfSome, OnErr, OnOk}
 use Rattle.model_archive.specs.declared.marks.ArchMarks.{ArchMarks}
 use Rattle.model_base.specs.declared.limits.TheConstants.{BLOCK_SIZE}
 use Rattle.model_core.specs.declared.ops.Answer.{Answer}
-use Rattle.model_device.specs.Disk.{Disk}
+use Rattle.model_device.specs.{Disk}
 use Rattle.model_log.specs.{block_of, IsBoundary, IsBoundaryBlock, IsRunOf, spans_of}
 use Rattle.model_log.specs.declared.group.Whole.{Whole}
 use Rattle.model_page.specs.declared.content.Content.{Content}
@@ -13,15 +13,13 @@ use Rattle.model_parts.specs.declared.marks.LogMarks.{LogMarks}
 use Rattle.redo_archive.specs.Part.{Part, PartArchives}
 use Rattle.redo_archiver.specs.{finishing_mark, IsAppended, IsToFinish, marks_after, MayAppendBlock}
 use Rattle.redo_disk.proofs.Made.{serves_end}
-use Rattle.redo_disk.specs.{Call, error_of, MakesCalls, Request, Serve}
-use Rattle.redo_disk.specs.Seen.{Seen, StillTells}
+use Rattle.redo_disk.specs.{Call, error_of, MakesCalls, Request, Serve, Seen, StillTells}
 use Rattle.redo_disk.specs.declared.error.DevError.{DevError}
 use Rattle.redo_disk.specs.declared.error.DevError.TheVariants.{Failed}
 use Rattle.redo_drive.proofs.ArchiveGroups.{risen_since}
 use Rattle.redo_drive.proofs.ArchiveTurns.{asked_then}
 use Rattle.redo_drive.proofs.CallsOn.{calls_then, not_called}
-use Rattle.redo_drive.specs.Archived.{HoldsFrom, IsReadBack}
-use Rattle.redo_drive.specs.Archiving.{IsSameArchive}
+use Rattle.redo_drive.specs.{HoldsFrom, IsReadBack, IsSameArchive}
 use Rattle.redo_drive.specs.LogPartSide.{LogRead}
 use Rattle.redo_finish.specs.{Finishes}
 use Rattle.redo_logdev.specs.{DiskHolds, HoldsBlock}

@@ -2,10 +2,8 @@
 use Rattle.std.specs.Prelude.{None, ℕ, ◌≡◌, ◌≤◌}
 use Rattle.redo_archive.specs.Part.{Part}
 use Rattle.redo_archiver.specs.{IsToFinish}
-use Rattle.redo_disk.specs.{Call}
-use Rattle.redo_disk.specs.Seen.{Seen}
-use Rattle.redo_drive.specs.Archived.{FinishesArchive, IsReadBack}
-use Rattle.redo_drive.specs.Archiving.{AsksUpTo, IsSameArchive}
+use Rattle.redo_disk.specs.{Call, Seen}
+use Rattle.redo_drive.specs.{FinishesArchive, IsReadBack, AsksUpTo, IsSameArchive}
 use Rattle.redo_logdev.specs.Part as log
 
 -- BLOCKS OF THE LOG WERE APPENDED TO AN ARCHIVE, up to FLUSHED at most. The log part was read alone; the archive is the same

@@ -1,10 +1,8 @@
 -- What a follower takes from its block.
-use Rattle.std.proofs.Common.{Bool, List, None, Some, [], ap, arith, cond, drop, eqb-true, false, min, refl, suc, sym}
-use Rattle.std.proofs.Common.{take, true, zero, ℕ, ◌%◌, ◌+◌, ◌-◌, ◌<◌, ◌∙◌, ◌∷◌, ◌≡◌, ◌≤◌, ◌^◌}
+use Rattle.std.proofs.Common.{Bool, List, None, Some, [], ap, arith, cond, drop, eqb-true, false, min, refl, suc, sym, take, true, zero, ℕ, ◌%◌, ◌+◌, ◌-◌, ◌<◌, ◌∙◌, ◌∷◌, ◌≡◌, ◌≤◌, ◌^◌}
 use Rattle.std.proofs.lemmas.List.{drop-drop}
 use Rattle.model_core.specs.{archives, block_end, floor, lsn, next_block, next_piece, read_to, ReaderState}
-use Rattle.model_log.specs.{sn_of}
-use Rattle.model_log.specs.Block.{block_view, data_of, is_block_at, read_block}
+use Rattle.model_log.specs.{sn_of, block_view, data_of, is_block_at, read_block}
 use Rattle.model_log.specs.declared.block.BlockView.{BlockView}
 use Rattle.model_log.specs.declared.layout.TheConstants.{BLOCK_DATA, BLOCK_DATA_END}
 use Rattle.model_log.proofs.BoundaryLengths.{sn_of-rises}

@@ -1,10 +1,9 @@
 -- One group more in a tally.
-use Rattle.std.proofs.Common.{List, [], ◌∷◌, ◌++◌, ℕ, ◌+◌, ◌%◌, ◌^◌, ◌≡◌, ◌∙◌, ap, append_assoc, append-nil, arith}
-use Rattle.std.proofs.Common.{length-append, subst, sym}
+use Rattle.std.proofs.Common.{List, [], ◌∷◌, ◌++◌, ℕ, ◌+◌, ◌%◌, ◌^◌, ◌≡◌, ◌∙◌, ap, append_assoc, append-nil, arith, length-append, subst, sym}
 use Rattle.model_core.specs.{Given}
 use Rattle.redo_crc.specs.Parts.{HasTaken}
 use Rattle.redo_follow.specs.Handing.{with_group}
-use Rattle.redo_follow.specs.Tallying.{HasTally, joined_given}
+use Rattle.redo_follow.specs.Following.{HasTally, joined_given}
 
 joined_more : (got : List Given) (start end : ℕ) (text : List ℕ)
     → joined_given (with_group got start end text) ≡ joined_given got ++ text

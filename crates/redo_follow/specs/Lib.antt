@@ -1,4 +1,5 @@
 pub mod Following
 pub mod Handing
 pub mod Lending
-pub mod Tallying
+pub use Rattle.redo_follow.specs.Following.{HasTally, Kept, joined_given}
+pub use Rattle.redo_follow.specs.Handing.{Followed, FollowerFits, IsToFollow, StandsFor, TookAnswer, follower_fits}

@@ -1,11 +1,10 @@
 // What a follower asks for, and what it makes of the answer.
 ghost use Rattle.std.specs.Prelude.{◌≡◌, ◌+◌, ◌<◌, ◌≤◌, ◌^◌, ◌==◌, if◌then◌else◌, drop, false, length, min, take, true};
 ghost use Rattle.std.specs.Borrow.{sem};
-ghost use Rattle.model_core.specs.Actors as actor;
-ghost use Rattle.model_core.specs.AnswerFits.{AnswerFits};
-ghost use Rattle.model_core.specs.{after_of, checked_of, lent, next, next_block, next_piece, read_to, reader_ending, reader_program, step_of};
+ghost use Rattle.model_core.specs.States as actor;
+ghost use Rattle.model_core.specs.{AnswerFits, after_of, checked_of, lent, next, next_block, next_piece, read_to, reader_ending, reader_program, step_of};
 ghost use Rattle.model_core.specs.declared.steps.ReaderStep.TheVariants as reader_step;
-ghost use Rattle.model_log.specs.Block.{block_view, is_block_at};
+ghost use Rattle.model_log.specs.{block_view, is_block_at};
 ghost use Rattle.model_log.specs.declared.layout.TheConstants.{BLOCK_DATA_END};
 ghost use Rattle.redo_follow.specs.declared.follower.TheConstants.{ROOM};
 ghost use Rattle.redo_follow.specs.Handing.{Followed, FollowerFits, IsFollowerStep, IsToFollow, TookAnswer};
@@ -34,7 +33,7 @@ impl<R: Receiver> Follower<R> {
     }
 
     /// The lsn of the next block that it needs.
-    #[tactic(auto, unfolding(model_core::specs::Lsn::lsn))]
+    #[tactic(auto, unfolding(model_core::specs::Lanes::lsn))]
     fn next_block(&self) -> u64
         ensures { result ≡ next_block self.now.state }
     {
@@ -173,7 +172,7 @@ impl<R: Receiver> Follower<R> {
     }
 
     /// It takes what the block has, and hands on the whole groups.
-    #[tactic(auto, unfolding(model_core::specs::Lsn::lsn))]
+    #[tactic(auto, unfolding(model_core::specs::Lanes::lsn))]
     fn follows(&mut self)
         ensures { Followed R.stands_for self.old self.new }
     {

@@ -3,7 +3,7 @@ ghost use Rattle.std.specs.Prelude.{List, [], ◌≡◌};
 ghost use Rattle.model_base.specs.{crc_of};
 ghost use Rattle.model_core.specs.{Given};
 ghost use Rattle.redo_follow.specs.Handing.{with_group};
-ghost use Rattle.redo_follow.specs.Tallying.{HasTally, joined_given};
+ghost use Rattle.redo_follow.specs.Following.{HasTally, joined_given};
 
 use crate::receiver::Receiver;
 use redo_crc::Crc;
@@ -17,7 +17,7 @@ pub struct Tally {
 }
 
 impl Model for Tally {
-    ghost use Rattle.redo_follow.specs.Tallying.{Kept};
+    ghost use Rattle.redo_follow.specs.Following.{Kept};
 
     ghost Value = { Kept };
 

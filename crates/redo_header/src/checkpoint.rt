@@ -23,7 +23,7 @@ pub fn fill_ckpt(out: &mut [u8; 512], number: u64, lsn: u64, layout: &Layout)
 
 /// The number and the lsn of the checkpoint in header block `which`, which is 1 or 3, on a device of this layout; nothing
 /// where none passes.
-#[tactic(auto, unfolding(model_log::specs::Checkpoint::read_checkpoint))]
+#[tactic(auto, unfolding(model_log::specs::Device::read_checkpoint))]
 pub fn read_ckpt(bytes: &[u8; 512], which: u32, layout: &Layout) -> Option<(u64, u64)>
     requires is_layout { IsLayout layout.now }
     ensures { result ≡ read_checkpoint which layout.now bytes.now }

@@ -39,7 +39,7 @@ pub fn read_head(first: &[u8; 512], second: &[u8; 512]) -> Head
 }
 
 /// What 512 bytes say as a file header.
-#[tactic(auto, unfolding(model_log::specs::Head::read_head))]
+#[tactic(auto, unfolding(model_log::specs::Device::read_head))]
 pub fn read_one_head(bytes: &[u8; 512]) -> Head
     ensures { result ≡ read_head bytes.now }
 {
@@ -51,7 +51,7 @@ pub fn read_one_head(bytes: &[u8; 512]) -> Head
 }
 
 // The same, once the checksum was found to fit.
-#[tactic(auto, unfolding(model_log::specs::Head::read_head))]
+#[tactic(auto, unfolding(model_log::specs::Device::read_head))]
 fn read_sealed_head(bytes: &[u8; 512]) -> Head
     requires { IsTrue (fits_checksum bytes.now) }
     ensures { result ≡ read_head bytes.now }

@@ -2,13 +2,12 @@
 use Rattle.std.proofs.Common.{◌≡◌, ℕ, ◌+◌, ◌-◌, ◌≤◌, ◌<◌, List, ◌++◌, length, take, drop, [], Option, None, Some, IfSome, Result, Ok, Err, IfOk, ◌∷◌, refl, sym, ap, subst, ◌∙◌, arith, append_assoc}
 use Rattle.std.proofs.lemmas.Option.{none-some, same_Some}
 use Rattle.std.proofs.Math.Seq.{take-add}
-use Rattle.std.proofs.lemmas.List.{length-drop, length-take-le, length-append, drop-drop, take_all}
+use Rattle.std.proofs.lemmas.List.{length-drop, length-take-le, length-append, drop-drop, take_all, append-nil}
 use Rattle.std.proofs.lemmas.Fn.{FoldsTo-push}
-use Rattle.std.proofs.lemmas.List.{append-nil}
 use Rattle.std.specs.List.{FoldsTo, concat}
 use Rattle.std.proofs.lemmas.List.Folds.{concat-append}
 use Rattle.redo_io.specs.Reads.{ReadRelation, GivesPiece, LastRead, IsReadThrough}
-use Rattle.redo_io.specs.Sink.{with_taken}
+use Rattle.redo_io.specs.Ends.{with_taken}
 use Rattle.redo_io.specs.Writes.{TakesSome, Writing}
 use Rattle.redo_io.specs.Steps.{TakesFront}
 use Rattle.redo_io.specs.declared.fault.ReadFault.{ReadFault}

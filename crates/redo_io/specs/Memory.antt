@@ -1,8 +1,7 @@
 -- What a source and a sink in memory are, and what one call does to them.
 use Rattle.std.specs.Prelude.{ℕ, ◌≡◌, ◌↔◌, min, List, ◌++◌, length, take, drop, Some, Result, IfOk, OnErr, IsErr, IsTrue}
 use Rattle.redo_io.specs.Plan.{Planned, after_failure, after_ok, fails_now}
-use Rattle.redo_io.specs.Sink.{SinkSeen}
-use Rattle.redo_io.specs.Source.{SourceSeen}
+use Rattle.redo_io.specs.Ends.{SinkSeen, SourceSeen}
 use Rattle.redo_io.specs.declared.fault.IoFault.{IoFault}
 
 -- the state of a source in memory

@@ -1,7 +1,7 @@
 -- The calls of something in memory that fail, by their numbers from 0, and counts that stand still at their last value.
 use Rattle.std.specs.Prelude.{ℕ, ◌==◌, Bool, if◌then◌else◌, List}
 use Rattle.std.specs.List.{list_any}
-use Rattle.redo_io.specs.Counting.{saturating_next}
+use Rattle.redo_io.specs.Ends.{saturating_next}
 
 -- which calls fail, and how far they have come
 pub record Planned : Type 0 where

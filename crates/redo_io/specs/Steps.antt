@@ -2,8 +2,7 @@
 use Rattle.std.specs.Prelude.{ℕ, ◌≡◌, ◌≤◌, ◌<◌, List, [], length, take, drop, Option, None, Some, Result, IfOk, OnErr, IfSome}
 use Rattle.model_base.specs.{HasRisen}
 use Rattle.redo_io.specs.declared.fault.IoFault.{IoFault}
-use Rattle.redo_io.specs.Source.{SourceSeen}
-use Rattle.redo_io.specs.Sink.{SinkSeen, with_taken}
+use Rattle.redo_io.specs.Ends.{SourceSeen, SinkSeen, with_taken}
 
 -- A write of these bytes, of which the sink takes some off the front. To take none of some bytes is a fault.
 pub record SinkStep (bytes : List ℕ) (old : SinkSeen) (result : Result ℕ IoFault) (new : SinkSeen) : Type 0 where

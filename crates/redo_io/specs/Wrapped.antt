@@ -2,7 +2,7 @@
 -- what it has left, or the writer what it holds, no byte is lost or made up on the way.
 use Rattle.std.specs.Prelude.{ℕ, ◌≡◌, List, Option, Result, Ok, Err}
 use Rattle.std.specs.Io.KnownBytes.{ReadConsumes, WriteAppends}
-use Rattle.redo_io.specs.Counting.{saturating_next}
+use Rattle.redo_io.specs.Ends.{saturating_next}
 use Rattle.redo_io.specs.declared.fault.IoFault.{IoFault}
 use Rattle.redo_io.specs.declared.reader_source.ReaderSource.{ReaderSource}
 use Rattle.redo_io.specs.declared.writer_sink.WriterSink.{WriterSink}

@@ -1,7 +1,7 @@
 // Writing a text whole.
 ghost use Rattle.std.specs.Prelude.{◌≡◌, ◌≤◌, ◌<◌, OnOk, OnErr};
 ghost use Rattle.model_base.specs.{HasRisen};
-ghost use Rattle.redo_io.specs.Sink.{with_taken, TakesPart};
+ghost use Rattle.redo_io.specs.Ends.{with_taken, TakesPart};
 ghost use Rattle.redo_io.specs.Writes.{IsPutThrough};
 
 use crate::{IoFault, Sink};

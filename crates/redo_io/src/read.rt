@@ -2,7 +2,7 @@
 ghost use Rattle.std.specs.Prelude.{◌≡◌, ◌≤◌, ◌<◌, ◌+◌, ◌^◌, length, IfOk, IfSome, IsErrOf, vec_len};
 ghost use Rattle.model_base.specs.{HasRisen};
 ghost use Rattle.redo_io.specs.Reads.{IsReadThrough};
-ghost use Rattle.redo_io.specs.Source.{TakesAtMost};
+ghost use Rattle.redo_io.specs.Ends.{TakesAtMost};
 ghost use Rattle.redo_io.specs.Steps.{IsAllOf};
 
 use crate::{ReadFault, Source, Text};

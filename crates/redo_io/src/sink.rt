@@ -1,7 +1,7 @@
 // Where bytes go.
 ghost use Rattle.std.specs.Prelude.{ℕ, List, Result};
 ghost use Rattle.redo_io.specs.declared.fault.IoFault.{IoFault};
-ghost use Rattle.redo_io.specs.Sink.{SinkSeen};
+ghost use Rattle.redo_io.specs.Ends.{SinkSeen};
 ghost use Rattle.redo_io.specs.Steps.{SinkStep};
 
 use crate::IoFault;

@@ -1,7 +1,7 @@
 // Where bytes come from.
 ghost use Rattle.std.specs.Prelude.{ℕ, List, length, Result};
 ghost use Rattle.redo_io.specs.declared.fault.IoFault.{IoFault};
-ghost use Rattle.redo_io.specs.Source.{SourceSeen};
+ghost use Rattle.redo_io.specs.Ends.{SourceSeen};
 ghost use Rattle.redo_io.specs.Steps.{SourceStep};
 
 use crate::IoFault;

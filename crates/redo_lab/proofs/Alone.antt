@@ -11,23 +11,21 @@ use Rattle.model_script.specs.declared.asked.Command.{Command}
 use Rattle.model_script.specs.declared.asked.Command.TheVariants.{Crash, Gen, Run}
 use Rattle.model_script.specs.declared.asked.Drive.{Drive}
 use Rattle.model_script.specs.declared.misfit.Misfit.{Misfit}
-use Rattle.redo_disk.specs.Seen.{Seen}
+use Rattle.redo_disk.specs.{Seen}
 use Rattle.redo_memdisk.specs.{fresh, fuse_of, inner_of}
 use Rattle.redo_memdisk.specs.declared.fuse.Fuse.{Fuse}
 use Rattle.redo_memdisk.specs.declared.fused.Fused.{Fused}
 use Rattle.redo_lab.specs.declared.crash_command.Crashing.{Crashing}
 use Rattle.redo_lab.specs.declared.outcome.Outcome.TheVariants as outcome
 use Rattle.redo_lab.proofs.Ends.{AreTelling, at-some, leaves-unprepared}
-use Rattle.redo_lab.specs.Asked.{command_of, IsBadLine, IsLongScript, leaves_devices, reads_script}
+use Rattle.redo_lab.specs.Call.{command_of, IsBadLine, IsLongScript, leaves_devices, reads_script, BothDevices, Guarded, IsUnfailed, IsUnwritten, LabCall, guarded}
 use Rattle.redo_lab.specs.Allowed.{IsScriptFault}
-use Rattle.redo_lab.specs.Call.{BothDevices, Guarded, IsUnfailed, IsUnwritten, LabCall, guarded}
-use Rattle.redo_lab.specs.Cause.{CanRun, IsCauseOf, IsPossible, IsUnprepared, LeavesFailed, MayKeepFrom}
+use Rattle.redo_lab.specs.Cause.{CanRun, IsCauseOf, IsPossible, IsUnprepared, LeavesFailed, MayKeepFrom, EndsWith, IsCallOf, IsDoneOrKeptFrom, IsFaultPrinted, IsOutcome}
 use Rattle.redo_lab.specs.Laws.{Laws}
 use Rattle.redo_lab.specs.Runs.{command_with, outcome_of}
 use Rattle.redo_lab.specs.Told.{LeavesStore}
 use Rattle.redo_io.specs.{SinkSeen, TakesAtMost}
 use Rattle.redo_io.specs.declared.read.TheConstants.{PIECE}
-use Rattle.redo_lab.specs.Ending.{EndsWith, IsCallOf, IsDoneOrKeptFrom, IsFaultPrinted, IsOutcome}
 
 -- the device is seen as it was, after a fuse that saw no call
 pub record IsLeftAlone (device : Guarded) : Type 0 where

@@ -4,7 +4,7 @@ use Rattle.std.specs.List.{AllByRecursion}
 use Rattle.model_archive.specs.{ArchiveHolds, IsFairArchive, newest_mark, ReadsArchive, RestoresUpTo}
 use Rattle.model_archive.specs.declared.marks.ArchMarks.{ArchMarks}
 use Rattle.model_base.specs.declared.shape.Shape.{Shape}
-use Rattle.model_device.specs.Disk.{Disk}
+use Rattle.model_device.specs.{Disk}
 use Rattle.model_log.specs.{block_of, groups_of}
 use Rattle.model_log.specs.declared.group.Whole.{Whole}
 use Rattle.model_page.specs.declared.content.Content.{Content}
@@ -14,9 +14,9 @@ use Rattle.model_store.specs.{IsStorable}
 use Rattle.model_theorem.specs.{Opened, Ran}
 use Rattle.redo_archive.specs.{DiskArchives}
 use Rattle.redo_archive.specs.Part.{Part}
-use Rattle.redo_disk.specs.Seen.{Seen}
+use Rattle.redo_disk.specs.{Seen}
 use Rattle.redo_lab.proofs.Ends.{at-some}
-use Rattle.redo_lab.specs.Archived.{IsArchiveOf}
+use Rattle.redo_lab.specs.Told.{IsArchiveOf}
 use Rattle.redo_lab.specs.Archiving.{ArchivesRan}
 
 -- what holds of every archive

@@ -6,7 +6,7 @@ use Rattle.std.specs.Str.{bytes_eq}
 use Rattle.model_base.proofs.ShapeLimits.{default_page_size, page_size_test}
 use Rattle.model_base.specs.{is_page_size, IsPageSize}
 use Rattle.model_base.specs.declared.limits.TheConstants.{DEFAULT_LOG_BLOCKS, DEFAULT_PAGES, DEFAULT_SPACE, MAX_LOG_BLOCKS, MAX_PAGES, MIN_LOG_BLOCKS, PAGE_SIZE}
-use Rattle.model_script.specs.Commands as commands
+use Rattle.model_script.specs.Words as commands
 use Rattle.model_script.specs.{are_among, are_different, asked_of, given_crash, drive_names, given_drive, given_followers, given_format, given_gen, given_number, given_run, number_or, number_within, page_size_or, is_given, plain_command, said_from, where_allowed, given_workers}
 use Rattle.model_script.specs.declared.asked.Asked.{Asked}
 use Rattle.model_script.specs.declared.asked.Command.{Command}
@@ -20,7 +20,7 @@ use Rattle.model_script.specs.declared.misfit.TheConstants.{MAX_USERS}
 use borrow.Author.Tests.{leb-true}
 use Rattle.model_script.specs.declared.asked.Drive.{Drive}
 use Rattle.redo_lab.specs.declared.crash_command.Crashing.{Crashing}
-use Rattle.redo_lab.specs.Asked.{command_of}
+use Rattle.redo_lab.specs.Call.{command_of}
 use Rattle.redo_lab.specs.Allowed.{HasAllowedNumbers}
 use Rattle.redo_lab.specs.Runs.{command_with}
 

@@ -13,11 +13,10 @@ use Rattle.model_script.specs.declared.asked.Drive.{Drive}
 use Rattle.model_script.specs.declared.script.ScriptLine.{ScriptLine}
 use Rattle.redo_archive.specs.Part.{Part}
 use Rattle.redo_disk.proofs.Made.{none_ends}
-use Rattle.redo_disk.specs.{Call}
-use Rattle.redo_disk.specs.Seen.{Seen}
+use Rattle.redo_disk.specs.{Call, Seen}
 use Rattle.redo_disk.specs.declared.error.DevError.{DevError}
 use Rattle.redo_disk.specs.declared.error.DevError.TheVariants.{Failed, NoMemory}
-use Rattle.redo_drive.specs.Startable.{IsNewArchive, MayBegin}
+use Rattle.redo_drive.specs.{IsNewArchive, MayBegin}
 use Rattle.redo_drive.specs.declared.drive.RunEnd.{RunEnd}
 use Rattle.redo_drive.specs.declared.drive.RunEnd.TheVariants.{Done, Spent}
 use Rattle.redo_memdisk.specs.declared.fused.Fused.{Fused}
@@ -26,11 +25,9 @@ use Rattle.redo_lab.proofs.Opening.{unplayed-archive, unplayed-memory}
 use Rattle.redo_lab.proofs.Unarchived.{no-archive, spares-untouched}
 use Rattle.redo_lab.specs.Archiving.{AreBegun, AreUnbegunBy, device_of, IsUnfused}
 use Rattle.redo_lab.specs.Call.{IsWellCalled, LabCall, Unfused, unfused}
-use Rattle.redo_lab.specs.Cause.{archive_size}
-use Rattle.redo_lab.specs.Ending.{EndsWith, WhereDone}
+use Rattle.redo_lab.specs.Cause.{archive_size, EndsWith, WhereDone}
 use Rattle.redo_lab.specs.Laws.{Laws}
-use Rattle.redo_lab.specs.Runs.{AreWellCalled, CommandRuns, IsGivenBack, IsUncut, SparedBy, StandsReady, course_done}
-use Rattle.redo_lab.specs.Runs.{course_of, ended_by}
+use Rattle.redo_lab.specs.Runs.{AreWellCalled, CommandRuns, IsGivenBack, IsUncut, SparedBy, StandsReady, course_done, course_of, ended_by}
 use Rattle.redo_lab.specs.declared.outcome.Outcome.{Outcome}
 use Rattle.redo_lab.specs.declared.outcome.Outcome.TheVariants as outcome
 use Rattle.redo_lab.specs.declared.playing.Course.{Course}

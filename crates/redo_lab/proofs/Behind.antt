@@ -1,14 +1,13 @@
 -- A device stays the one that was handed in, behind the fuse that was armed, through calls and a crash.
 use Rattle.std.proofs.Common.{ℕ, ◌≡◌, List, refl, ap, ◌∙◌}
-use Rattle.redo_disk.specs.{Call, MakesCalls}
-use Rattle.redo_disk.specs.Seen.{Seen}
+use Rattle.redo_disk.specs.{Call, MakesCalls, Seen}
 use Rattle.redo_memdisk.proofs.Behind.{counts-calls, keeps-behind}
 use Rattle.redo_memdisk.specs.{CallsThrough, CrashesThrough, with_change}
 use Rattle.redo_memdisk.specs.declared.fuse.Fuse.{Fuse}
 use Rattle.redo_memdisk.specs.declared.fuse.Stage.{Stage}
 use Rattle.redo_memdisk.specs.declared.fuse.Stage.TheVariants.{Before, Stopping, Crashed}
 use Rattle.redo_memdisk.specs.declared.fused.Fused.{Fused}
-use Rattle.redo_lab.specs.Handed.{IsSameFused}
+use Rattle.redo_lab.specs.Call.{IsSameFused}
 
 pub same-fused : {D : Type 0} (device : Fused D) → IsSameFused device device
 same-fused device = record { entry = refl; armed = refl; limit = refl }

@@ -2,25 +2,23 @@
 use Rattle.redo_drive.specs.declared.drive.RunEnd.{RunEnd}
 use Rattle.std.proofs.Common.{ℕ, ◌≡◌, Bool, true, false, List, Option, refl, sym, subst, ◌∙◌}
 use Rattle.model_script.specs.declared.asked.Drive.{Drive}
-use Rattle.model_device.specs.Disk.{Disk}
-use Rattle.model_core.specs.Actors as model
+use Rattle.model_device.specs.{Disk}
+use Rattle.model_core.specs.States as model
 use Rattle.model_report.specs.declared.entry.Followed.{Followed}
 use Rattle.model_script.specs.declared.script.ScriptLine.{ScriptLine}
 use Rattle.model_theorem.specs.{Ran}
-use Rattle.model_theorem.specs.Values as values
-use Rattle.redo_disk.specs.{Call}
-use Rattle.redo_disk.specs.Seen.{Seen}
-use Rattle.redo_drive.specs.Views.{views_of}
+use Rattle.model_theorem.specs.Run as values
+use Rattle.redo_disk.specs.{Call, StillTells, Seen}
+use Rattle.redo_drive.specs.{views_of}
 use Rattle.redo_drive.specs.declared.drive.Driven.{Driven}
 use Rattle.redo_drive.specs.declared.drive.RunEnd.TheVariants.{Done, Spent}
 use Rattle.redo_memdisk.specs.declared.fused.Fused.{Fused}
 use Rattle.redo_store.specs.declared.opened.Opened.{Opened}
 use Rattle.redo_threads.specs.InThreads.{RunsInThreads}
 use Rattle.redo_lab.specs.Cause.{MaySpend}
-use Rattle.redo_disk.specs.{StillTells}
 use Rattle.redo_disk.proofs.Told.{still-then}
 use Rattle.redo_lab.proofs.Behind.{same-then}
-use Rattle.redo_lab.specs.Handed.{IsDriven, IsSameFused, TellsOf}
+use Rattle.redo_lab.specs.Call.{IsDriven, IsSameFused, TellsOf}
 
 -- what a call says of drives
 abbrev pub Drives : Type 1

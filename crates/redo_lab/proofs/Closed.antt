@@ -7,16 +7,13 @@ use Rattle.model_script.specs.declared.asked.Drive.{Drive}
 use Rattle.model_script.specs.declared.script.ScriptLine.{ScriptLine}
 use Rattle.redo_archive.specs.Part.{Part}
 use Rattle.redo_archiver.specs.{IsToFinish}
-use Rattle.redo_disk.specs.{Call}
-use Rattle.redo_disk.specs.Seen.{Seen}
-use Rattle.redo_drive.specs.{Owes}
-use Rattle.redo_drive.specs.Archived.{HaveArchived}
+use Rattle.redo_disk.specs.{Call, Seen}
+use Rattle.redo_drive.specs.{Owes, HaveArchived, views_of}
 use Rattle.redo_drive.specs.Drive.{ReadsToMarks}
 use Rattle.redo_drive.specs.Followed.{HaveFollowed}
-use Rattle.redo_drive.specs.Views.{views_of}
 use Rattle.redo_drive.specs.declared.actor.Actor.{Actor}
 use Rattle.redo_drive.specs.declared.drive.Driven.{Driven}
-use Rattle.redo_follow.specs.Tallying.{HasTally, Kept}
+use Rattle.redo_follow.specs.{HasTally, Kept}
 use Rattle.redo_lsn.specs.declared.memory.NoMemory.{NoMemory}
 use Rattle.redo_memdisk.specs.{CallsThrough, seen_through}
 use Rattle.redo_memdisk.specs.declared.fused.Fused.{Fused}
@@ -26,17 +23,14 @@ use Rattle.redo_lab.proofs.ByDrive.{spends-turns}
 use Rattle.redo_lab.proofs.Driving.{driven-comes}
 use Rattle.redo_lab.proofs.Entered.{both-same, entries-then, owed-entries}
 use Rattle.redo_lab.proofs.Followers.{room-for}
-use Rattle.redo_lab.proofs.Kept.{finished-after, finished-owed, finished-reads, kept-run, still-some, still-started}
-use Rattle.redo_lab.proofs.Kept.{to-finish, well-run}
+use Rattle.redo_lab.proofs.Kept.{finished-after, finished-owed, finished-reads, kept-run, still-some, still-started, to-finish, well-run}
 use Rattle.redo_lab.proofs.Opening.{unplayed-memory}
 use Rattle.redo_lab.proofs.Owed.{IsOwed, as-owed}
 use Rattle.redo_lab.specs.Archiving.{failed_of, IsUnfused}
 use Rattle.redo_lab.specs.Begun.{HasBegun, IsClosedBy, IsUnrun}
-use Rattle.redo_lab.specs.Call.{LabCall}
-use Rattle.redo_lab.specs.Handed.{AreOf, TellsOf, call_on, Handed}
+use Rattle.redo_lab.specs.Call.{LabCall, AreOf, TellsOf, call_on, Handed}
 use Rattle.redo_lab.specs.Laws.{Laws}
-use Rattle.redo_lab.specs.Runs.{AreWellCalled, CommandRuns, IsGivenBack, IsRanBy, SparedBy, StandsReady}
-use Rattle.redo_lab.specs.Runs.{course_of, ended_by, played_of}
+use Rattle.redo_lab.specs.Runs.{AreWellCalled, CommandRuns, IsGivenBack, IsRanBy, SparedBy, StandsReady, course_of, ended_by, played_of}
 use Rattle.redo_lab.specs.declared.playing.Course.TheVariants as course
 use Rattle.redo_lab.specs.declared.start.Begun.{Begun}
 use Rattle.redo_lab.specs.declared.playing.Played.{Played}

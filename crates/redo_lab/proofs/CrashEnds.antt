@@ -2,8 +2,7 @@
 use Rattle.std.proofs.Common.{ℕ, ◌≡◌, ◌+◌, List, [], Option, Some, None, IfSome, refl, sym, subst, ◌∙◌, inr, arith, ◌≢◌, inl, false, ⊎_elim}
 use Rattle.std.proofs.lemmas.Bool.{false≢true}
 use Rattle.model_device.proofs.Images.{settled_images}
-use Rattle.model_device.specs.{Crashes, IsImage}
-use Rattle.model_device.specs.Disk.{Disk}
+use Rattle.model_device.specs.{Crashes, IsImage, Disk}
 use Rattle.model_report.specs.{IsLeft}
 use Rattle.model_report.specs.declared.entry.Followed.{Followed}
 use Rattle.model_report.specs.declared.fault.Fault.{Fault}
@@ -12,8 +11,7 @@ use Rattle.model_script.specs.declared.asked.Command.{Command}
 use Rattle.model_script.specs.declared.asked.Command.TheVariants.{Crash}
 use Rattle.model_script.specs.declared.asked.Drive.{Drive}
 use Rattle.model_script.specs.declared.script.ScriptLine.{ScriptLine}
-use Rattle.model_store.specs.{HasOldCopies, IsReading, Opens}
-use Rattle.model_store.specs.Reading.{Reading}
+use Rattle.model_store.specs.{HasOldCopies, IsReading, Opens, Reading}
 use Rattle.model_store.specs.declared.refusal.Refusal.{Refusal}
 use Rattle.model_theorem.specs.{entries_of, IsPrefixRead, LosesOnlyByFailure, misfit_on, Opened, Ran, ReadsPrefix}
 use Rattle.redo_drive.specs.declared.drive.RunEnd.TheVariants.{Done}
@@ -28,14 +26,11 @@ use Rattle.redo_lab.proofs.Found.{one-opened}
 use Rattle.redo_lab.proofs.Told.{some-told}
 use Rattle.redo_lab.proofs.Rereading.{IsCrashedSince, ReadsTo, Was, before, prepared-later}
 use Rattle.redo_lab.specs.Crash.{AreCrashedAs, CrashSafe, ReadsRun}
-use Rattle.redo_lab.specs.Asked.{IsScriptRead}
-use Rattle.redo_lab.specs.Call.{BothDevices, IsLeftFair, IsUnfailedAside, LabCall, WhereOpened, WhereToldNow, mids}
-use Rattle.redo_lab.specs.Cause.{AreOfRun, CanPlay, LeavesFailed}
+use Rattle.redo_lab.specs.Call.{IsScriptRead, BothDevices, IsLeftFair, IsUnfailedAside, LabCall, WhereOpened, WhereToldNow, mids}
+use Rattle.redo_lab.specs.Cause.{AreOfRun, CanPlay, LeavesFailed, EndsWith, IsDoneOrKeptFrom, IsOutcome}
 use Rattle.redo_lab.specs.Laws.{Laws}
 use Rattle.redo_lab.specs.Runs.{HasFailed, IsLeftBy, IsReportOf, IsToldRightly}
-use Rattle.redo_lab.specs.Store.{AreReadAsPrefix, AreRefused}
-use Rattle.redo_lab.specs.Told.{AreMarksRead, AreToldOf, HasRunScript, IsOpenedFirst, LeavesStore}
-use Rattle.redo_lab.specs.Ending.{EndsWith, IsDoneOrKeptFrom, IsOutcome}
+use Rattle.redo_lab.specs.Told.{AreReadAsPrefix, AreRefused, AreMarksRead, AreToldOf, HasRunScript, IsOpenedFirst, LeavesStore}
 
 -- of an opening that a device stopped something is lost only by that
 lost-stopped : (call : LabCall) (f : Fault) (left : List (ℕ × ℕ)) → HasFailed call f

@@ -2,8 +2,7 @@
 use Rattle.std.proofs.Common.{ℕ, ◌≡◌, ◌<◌, ◌+◌, Option, Some, None, sym, subst, ⊎_elim}
 use Rattle.model_base.proofs.ShapeLimits.{default_within}
 use Rattle.model_base.specs.{default_shape}
-use Rattle.model_device.specs.{Crashes}
-use Rattle.model_device.specs.Disk.{Disk}
+use Rattle.model_device.specs.{Crashes, Disk}
 use Rattle.redo_disk.specs.{WhereTold}
 use Rattle.redo_lab.proofs.Rereading.{IsCrashedSince, Was}
 use Rattle.redo_lab.specs.Call.{Guarded, LabCall}

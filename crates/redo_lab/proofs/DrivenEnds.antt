@@ -1,6 +1,5 @@
 -- What a run comes to that was driven, by what a call of each device answered that failed.
-use Rattle.std.proofs.Common.{Global, Vec}
-use Rattle.std.proofs.Common.{ℕ, ◌≡◌, ◌≤◌, ◌<◌, ◌+◌, List, Option, Some, None, refl, sym, ap, subst, ◌∙◌, inl, inr, ⊎_elim, arith}
+use Rattle.std.proofs.Common.{Global, Vec, ℕ, ◌≡◌, ◌≤◌, ◌<◌, ◌+◌, List, Option, Some, None, refl, sym, ap, subst, ◌∙◌, inl, inr, ⊎_elim, arith}
 use Rattle.model_report.specs.{IsLeft}
 use Rattle.model_report.specs.declared.entry.Followed.{Followed}
 use Rattle.model_report.specs.declared.fault.Fault.{Fault}
@@ -8,8 +7,7 @@ use Rattle.model_report.specs.declared.fault.Fault.TheVariants as fault
 use Rattle.model_script.specs.declared.asked.Command.{Command}
 use Rattle.model_script.specs.declared.asked.Drive.{Drive}
 use Rattle.model_script.specs.declared.script.ScriptLine.{ScriptLine}
-use Rattle.model_store.specs.{IsReading}
-use Rattle.model_store.specs.Reading.{Reading}
+use Rattle.model_store.specs.{IsReading, Reading}
 use Rattle.model_theorem.specs.{LosesOnlyByFailure, Opened, Ran}
 use Rattle.redo_disk.specs.{failures}
 use Rattle.redo_disk.specs.declared.error.DevError.{DevError}
@@ -22,11 +20,10 @@ use Rattle.redo_drive.specs.declared.drive.RunEnd.TheVariants.{Done, Spent}
 use Rattle.redo_memdisk.specs.declared.fused.Fused.{Fused}
 use Rattle.redo_lab.proofs.Archives.{archived-also}
 use Rattle.redo_lab.proofs.Ends.{SpendsTurns, left-memory, left-spent}
-use Rattle.redo_lab.specs.Archived.{IsArchived}
+use Rattle.redo_lab.specs.Told.{IsArchived, AreFollowed, AreMarksRead, HasArchiveFailed, LosesOnlyBy}
 use Rattle.redo_lab.specs.Call.{LabCall, WhereOpened, WhereToldNow, mids}
 use Rattle.redo_lab.specs.Laws.{Laws}
 use Rattle.redo_lab.specs.Runs.{ComesTo, CommandRuns, IsLeftBy, IsToldRightly, course_done, course_of, ended_by, played_of, ran_of}
-use Rattle.redo_lab.specs.Told.{AreFollowed, AreMarksRead, HasArchiveFailed, LosesOnlyBy}
 use Rattle.redo_lab.specs.declared.playing.Course.TheVariants as course
 use Rattle.redo_lab.specs.declared.playing.Played.{Played}
 use Rattle.redo_lab.specs.declared.playing.Stops.{Stops}

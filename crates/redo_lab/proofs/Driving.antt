@@ -1,11 +1,9 @@
 -- The run of a script on a store that stands opened, by a drive, and what it leaves.
-use Rattle.std.proofs.Common.{Global, Vec}
-use Rattle.std.proofs.Common.{ℕ, ◌≡◌, ◌+◌, ◌<◌, ◌≤◌, true, List, Option, Some, None, refl, sym, ap, subst, ◌∙◌, inl, inr, ⊎_elim, arith, ◌≢◌}
+use Rattle.std.proofs.Common.{Global, Vec, ℕ, ◌≡◌, ◌+◌, ◌<◌, ◌≤◌, true, List, Option, Some, None, refl, sym, ap, subst, ◌∙◌, inl, inr, ⊎_elim, arith, ◌≢◌}
 use Rattle.std.specs.List.{AllByRecursion, AllZip}
 use Rattle.model_base.specs.{run_shape}
 use Rattle.model_base.specs.declared.shape.Shape.{Shape}
-use Rattle.model_device.specs.{synced}
-use Rattle.model_device.specs.Disk.{Disk}
+use Rattle.model_device.specs.{synced, Disk}
 use Rattle.model_parts.specs.{IsReady, numbers_taken}
 use Rattle.model_report.specs.{IsLeft, IsLegal}
 use Rattle.model_report.specs.declared.entry.Followed.{Followed}
@@ -13,26 +11,22 @@ use Rattle.model_script.specs.{LineFits}
 use Rattle.model_script.specs.declared.asked.Command.{Command}
 use Rattle.model_script.specs.declared.asked.Drive.{Drive}
 use Rattle.model_script.specs.declared.script.ScriptLine.{ScriptLine}
-use Rattle.model_store.specs.{IsFairLog, IsReading}
-use Rattle.model_store.specs.Reading.{Reading}
+use Rattle.model_store.specs.{IsFairLog, IsReading, Reading}
 use Rattle.model_theorem.specs.{IsClosed, IsHeld, IsOpenedBefore, IsRun, IsStart, LosesOnlyByFailure, Opened, opened_as, Ran}
-use Rattle.redo_disk.specs.{Call, failures, MakesCalls, MayEndWith}
-use Rattle.redo_disk.specs.Seen.{Seen}
+use Rattle.redo_disk.specs.{Call, failures, MakesCalls, MayEndWith, Seen}
 use Rattle.redo_disk.specs.declared.error.DevError.{DevError}
 use Rattle.redo_disk.specs.declared.error.DevError.TheVariants as device
 use Rattle.redo_disk.proofs.Made.{may_end}
 use Rattle.redo_disk.proofs.Told.{still-known}
-use Rattle.redo_drive.specs.{HasMemory}
+use Rattle.redo_drive.specs.{HasMemory, AreNewFollowers, HasReading, followers_in, views_of}
 use Rattle.redo_drive.specs.Drive.{ReadsToMarks, failed_in}
 use Rattle.redo_drive.specs.Followed.{HasFollowed, HaveFollowed}
-use Rattle.redo_drive.specs.Startable.{AreNewFollowers, HasReading}
-use Rattle.redo_drive.specs.Views.{followers_in, views_of}
 use Rattle.redo_drive.specs.declared.actor.Actor.{Actor}
 use Rattle.redo_drive.specs.declared.drive.Driven.{Driven}
 use Rattle.redo_drive.specs.declared.drive.RunEnd.{RunEnd}
 use Rattle.redo_drive.specs.declared.drive.RunEnd.TheVariants.{Done, Spent}
 use Rattle.redo_follow.specs.Following.{Following}
-use Rattle.redo_follow.specs.Tallying.{HasTally, Kept}
+use Rattle.redo_follow.specs.{HasTally, Kept}
 use Rattle.redo_memdisk.proofs.Behind.{counts-calls, keeps-behind}
 use Rattle.redo_memdisk.specs.{CallsThrough, seen_through}
 use Rattle.redo_memdisk.specs.declared.fused.Fused.{Fused}
@@ -55,15 +49,11 @@ use Rattle.redo_lab.proofs.Owed.{IsOwed, IsReadAfter}
 use Rattle.redo_lab.proofs.Rereading.{armed-as}
 use Rattle.redo_lab.proofs.SomeLeft.{some-left}
 use Rattle.redo_lab.proofs.Told.{both-told, one-told, some-told, weaker-both}
-use Rattle.redo_lab.specs.Archived.{IsArchiveOf, IsArchived}
-use Rattle.redo_lab.specs.Call.{LabCall, WhereOpened, WhereToldNow, mids}
-use Rattle.redo_lab.specs.Following.{IsToldOf}
-use Rattle.redo_lab.specs.Untold.{AreUntold}
-use Rattle.redo_lab.specs.Handed.{TellsOf, call_on, Handed}
+use Rattle.redo_lab.specs.Told.{IsArchiveOf, IsArchived, AreReadAsPrefix, AreFollowed, AreLeftRead, AreMarksRead, IsFollowed, IsOpenedFirst, LosesOnlyBy}
+use Rattle.redo_lab.specs.Call.{LabCall, WhereOpened, WhereToldNow, mids, IsToldOf, TellsOf, call_on, Handed}
+use Rattle.redo_lab.specs.Begun.{AreUntold}
 use Rattle.redo_lab.specs.Laws.{Laws}
 use Rattle.redo_lab.specs.Runs.{ComesTo, CommandRuns, IsLeftBy, IsToldRightly, StandsReady, course_done, course_of, ended_by, played_of, ran_of}
-use Rattle.redo_lab.specs.Store.{AreReadAsPrefix}
-use Rattle.redo_lab.specs.Told.{AreFollowed, AreLeftRead, AreMarksRead, IsFollowed, IsOpenedFirst, LosesOnlyBy}
 
 -- what reads give of a log device that was synced is fair
 synced-fair : (disk : Disk) → IsFairLog (synced disk) disk.reads

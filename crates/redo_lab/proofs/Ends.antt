@@ -3,7 +3,7 @@ use Rattle.std.proofs.Common.{ℕ, ◌≡◌, ◌≢◌, ◌<◌, true, false, L
 use Rattle.std.proofs.lemmas.Bool.{false≢true}
 use Rattle.model_base.specs.{HasRisen, run_shape}
 use Rattle.model_base.specs.declared.shape.Shape.{Shape}
-use Rattle.model_device.specs.Disk.{Disk}
+use Rattle.model_device.specs.{Disk}
 use Rattle.model_parts.specs.{IsOpenable}
 use Rattle.model_report.specs.declared.entry.Followed.{Followed}
 use Rattle.model_report.specs.declared.fault.Fault.{Fault}
@@ -13,29 +13,24 @@ use Rattle.model_script.specs.declared.asked.Command.{Command}
 use Rattle.model_script.specs.declared.asked.Command.TheVariants.{Format, Run, Crash, Recover, Restore, Dump, Gen}
 use Rattle.model_script.specs.declared.asked.Drive.{Drive}
 use Rattle.model_script.specs.declared.script.ScriptLine.{ScriptLine}
-use Rattle.model_store.specs.{IsFair, Opens}
-use Rattle.model_store.specs.Reading.{Reading}
+use Rattle.model_store.specs.{IsFair, Opens, Reading}
 use Rattle.model_store.specs.declared.refusal.Refusal.{Refusal}
 use Rattle.model_theorem.proofs.Sizes.{own-fair}
 use Rattle.model_theorem.specs.{IsRun, Opened, Ran}
 use Rattle.redo_drive.specs.declared.drive.RunEnd.{RunEnd}
 use Rattle.redo_drive.specs.declared.drive.RunEnd.TheVariants.{Spent}
 use Rattle.redo_io.specs.{SourceSeen}
-use Rattle.redo_lab.specs.Archived.{IsArchived}
+use Rattle.redo_lab.specs.Told.{IsArchived, AreAccepted, AreLeftRead, HasRunScript, IsOpenedFirst, IsOrderlyOrNew, LeavesStore}
 use Rattle.redo_lab.specs.declared.crash_command.Crashing.{Crashing}
 use Rattle.redo_lab.specs.declared.outcome.Outcome.{Outcome}
 use Rattle.redo_lab.specs.declared.outcome.Outcome.TheVariants as outcome
 use Rattle.redo_lab.specs.declared.playing.Stops.{Stops}
 use Rattle.redo_lab.proofs.Found.{one-opened, openable-fresh, openable-limits, same-told, unused-unread}
-use Rattle.redo_lab.specs.Asked.{IsScriptRead, drive_of_seed, leaves_devices, runs_script}
-use Rattle.redo_lab.specs.Call.{AreUnfailedFor, BothDevices, Guarded, IsInRun, IsUnfailed, IsUnfailedAside, LabCall, WhereOpened}
-use Rattle.redo_lab.specs.Cause.{AreInRunOrCrashed, AreOfRun, CanPlay, CanRun, IsDeviceFault, IsPastSource, IsPossible, IsRefused, IsRefusedAtEntry, IsUnbegun, IsUnprepared, LeavesFailed, MaySpend}
+use Rattle.redo_lab.specs.Call.{IsScriptRead, drive_of_seed, leaves_devices, runs_script, AreUnfailedFor, BothDevices, Guarded, IsInRun, IsUnfailed, IsUnfailedAside, LabCall, WhereOpened}
+use Rattle.redo_lab.specs.Cause.{AreInRunOrCrashed, AreOfRun, CanPlay, CanRun, IsDeviceFault, IsPastSource, IsPossible, IsRefused, IsRefusedAtEntry, IsUnbegun, IsUnprepared, LeavesFailed, MaySpend, EndsWith, IsDoneOrKeptFrom, IsOutcome}
 use Rattle.redo_lab.specs.Devices.{AreArmed}
 use Rattle.redo_lab.specs.Laws.{Laws}
 use Rattle.redo_lab.specs.Runs.{CommandRuns, HasFailed, IsLeftBy, command_with}
-use Rattle.redo_lab.specs.Store.{AreAccepted}
-use Rattle.redo_lab.specs.Told.{AreLeftRead, HasRunScript, IsOpenedFirst, IsOrderlyOrNew, LeavesStore}
-use Rattle.redo_lab.specs.Ending.{EndsWith, IsDoneOrKeptFrom, IsOutcome}
 
 -- what holds of a value that is there
 pub at-some : {A : Type 0} (o : Option A) (P : A → Type 0) (x : A) → IfSome o P → o ≡ Some x → P x

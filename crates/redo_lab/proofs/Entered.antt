@@ -1,8 +1,7 @@
 -- The devices behind the fuses are those that were handed in.
 use Rattle.std.proofs.Common.{◌≡◌, List, Result, Ok, Err, refl, ap, ◌∙◌, ⊎_elim}
 use Rattle.model_script.specs.declared.script.ScriptLine.{ScriptLine}
-use Rattle.redo_disk.specs.{Call, MakesCalls}
-use Rattle.redo_disk.specs.Seen.{Seen}
+use Rattle.redo_disk.specs.{Call, MakesCalls, Seen}
 use Rattle.redo_memdisk.specs.{CallsThrough, entry_of}
 use Rattle.redo_memdisk.specs.declared.fused.Fused.{Fused}
 use Rattle.redo_open.specs.{FormatCalls}
@@ -13,7 +12,7 @@ use Rattle.redo_drive.specs.declared.drive.Driven.{Driven}
 use Rattle.redo_lab.proofs.Behind.{calls-same}
 use Rattle.redo_lab.proofs.Owed.{IsOwed}
 use Rattle.redo_lab.specs.declared.playing.Ran.{Ran}
-use Rattle.redo_lab.specs.Handed.{AreOf}
+use Rattle.redo_lab.specs.Call.{AreOf}
 use Rattle.redo_lab.specs.Runs.{AreEntered}
 
 pub calls-entry : {D : Type 0} {seen : D → Seen} {gives : D → Call → D → Type 0} {old new : Fused D} {Are : List Call → Type 0}

@@ -5,7 +5,7 @@ use Rattle.std.specs.Cmp.Lexicographic.{other_text, pointwise, same_text}
 use Rattle.std.proofs.lemmas.Bool.{false≢true}
 use Rattle.std.proofs.lemmas.List.{drop-take, length-drop, take_all, take-take}
 use Rattle.model_base.specs.declared.limits.TheConstants.{BLOCK_SIZE}
-use Rattle.model_device.specs.Disk.{Disk}
+use Rattle.model_device.specs.{Disk}
 use Rattle.model_log.specs.{header_block}
 use Rattle.model_store.specs.{IsUnused}
 use Rattle.redo_disk.specs.{Answer, Call, error_of, MakesCall, MakesCalls, part, Reads, ReadsEndWith}
@@ -13,8 +13,8 @@ use Rattle.redo_disk.specs.declared.error.DevError.{DevError}
 use Rattle.redo_lab.specs.Devices.{IsFirstRead}
 
 one-read : (at : ℕ) (before after : List ℕ) (answer : Answer) → ReadsEndWith (error_of answer) (Reads at before answer after ∷ [])
-one-read at before after (Ok done) = record { reads = (tt, tt); ends = record { stop = (tt, tt); first = refl } }
-one-read at before after (Err error) = record { reads = (tt, tt); ends = record { stop = (refl, tt); first = refl } }
+one-read at before after (Ok done) = record { reads = (tt, tt); ends = refl }
+one-read at before after (Err error) = record { reads = (tt, tt); ends = refl }
 
 pub read-block : {D : Type 0} {gives : D → Call → D → Type 0} {old new : D} {at : ℕ} {before after : List ℕ} {answer : Answer} (result : Result Bool DevError)
     → MakesCall gives old (Reads at before answer after) new → error_of answer ≡ error_of result

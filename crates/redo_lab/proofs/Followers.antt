@@ -1,6 +1,5 @@
 -- What is told of the followers of a run, by what the drive leaves of them.
-use Rattle.std.proofs.Common.{List, [], ap, arith, length, refl, slice_get, Some, subst, suc, sym, zero}
-use Rattle.std.proofs.Common.{ℕ, ◌%◌, ◌+◌, ◌^◌, ◌∙◌, ◌∷◌, ◌≡◌, ◌≤◌}
+use Rattle.std.proofs.Common.{List, [], ap, arith, length, refl, slice_get, Some, subst, suc, sym, zero, ℕ, ◌%◌, ◌+◌, ◌^◌, ◌∙◌, ◌∷◌, ◌≡◌, ◌≤◌}
 use Rattle.std.proofs.lemmas.Slice.Zip.{AllZip-long}
 use Rattle.std.specs.List.{AllByRecursion, AllZip}
 use lib.ListN.{get_elem?}
@@ -16,17 +15,16 @@ use Rattle.model_script.specs.declared.script.ScriptLine.{ScriptLine}
 use Rattle.model_theorem.specs.{Ran}
 use Rattle.redo_drive.specs.Drive.{closed_run}
 use Rattle.redo_drive.specs.Followed.{given_upto, HasFollowed, HasSameNumber}
-use Rattle.redo_drive.specs.Views.{followers_in}
-use Rattle.redo_drive.specs.Startable.{AreNewFollowers}
+use Rattle.redo_drive.specs.{followers_in, AreNewFollowers}
 use Rattle.redo_drive.specs.declared.actor.Actor.{Actor}
 use Rattle.redo_drive.specs.declared.closed.Closed.{Closed}
 use Rattle.redo_drive.specs.declared.seating.TheConstants.{FIRST_FOLLOWER}
 use Rattle.redo_follow.specs.Following.{Following}
-use Rattle.redo_follow.specs.Tallying.{HasTally, Kept}
+use Rattle.redo_follow.specs.{HasTally, Kept}
 use Rattle.redo_store.specs.declared.opened.Opened.{Opened}
 use Rattle.redo_lab.proofs.Fronts.{AreInFront, in-front}
-use Rattle.redo_lab.specs.Following.{IsToldOf}
-use Rattle.redo_lab.specs.Untold.{AreUntold}
+use Rattle.redo_lab.specs.Call.{IsToldOf}
+use Rattle.redo_lab.specs.Begun.{AreUntold}
 use Rattle.redo_lab.specs.Told.{IsFollowed}
 
 -- there are as many as there were

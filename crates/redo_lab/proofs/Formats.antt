@@ -3,7 +3,7 @@ use Rattle.std.proofs.Common.{ℕ, ◌≡◌, List, Option, Result, Ok, Err, IfO
 use Rattle.std.proofs.lemmas.Bool.{false≢true}
 use Rattle.model_base.specs.{IsWithinLimits}
 use Rattle.model_base.specs.declared.shape.Shape.{Shape}
-use Rattle.model_device.specs.Disk.{Disk}
+use Rattle.model_device.specs.{Disk}
 use Rattle.model_parts.specs.{formatted_store, IsFormatted, IsOpenable}
 use Rattle.model_report.specs.{format_text}
 use Rattle.model_report.specs.declared.fault.Fault.{Fault}
@@ -13,8 +13,7 @@ use Rattle.model_script.specs.declared.asked.Command.TheVariants.{Format}
 use Rattle.model_store.specs.{IsOrderly}
 use Rattle.model_store.specs.declared.refusal.Refusal.{Refusal}
 use Rattle.model_store.specs.declared.refusal.Refusal.TheVariants as refusal
-use Rattle.redo_disk.specs.{Call, EndWith, failures, MakesCalls}
-use Rattle.redo_disk.specs.Seen.{Seen}
+use Rattle.redo_disk.specs.{Call, EndWith, failures, MakesCalls, Seen}
 use Rattle.redo_disk.specs.declared.error.DevError.{DevError}
 use Rattle.redo_disk.proofs.Calls.{MayEndWith-ends}
 use Rattle.redo_disk.proofs.Made.{weaker_calls}
@@ -29,14 +28,12 @@ use Rattle.redo_lab.proofs.Alone.{IsLeftAlone, tells-alone, unfailed-alone, unwr
 use Rattle.redo_lab.proofs.Ends.{AreTelling}
 use Rattle.redo_lab.proofs.Fuses.{unarmed-calls}
 use Rattle.redo_lab.proofs.Told.{both-told}
-use Rattle.redo_lab.specs.Answer.{asked_shape}
-use Rattle.redo_lab.specs.Call.{BothDevices, Guarded, IsUnfailed, LabCall, guarded}
-use Rattle.redo_lab.specs.Cause.{AreLongEnough, IsPastSource, LeavesFailed}
+use Rattle.redo_lab.specs.Call.{asked_shape, BothDevices, Guarded, IsUnfailed, LabCall, guarded}
+use Rattle.redo_lab.specs.Cause.{AreLongEnough, IsPastSource, LeavesFailed, EndsWith, IsDoneOrKeptFrom, IsOutcome}
 use Rattle.redo_lab.specs.Devices.{IsUnarmed}
 use Rattle.redo_lab.specs.Laws.{Laws}
 use Rattle.redo_lab.specs.Runs.{fault_of, outcome_of}
-use Rattle.redo_lab.specs.Store.{AreBlank, IsTooShort}
-use Rattle.redo_lab.specs.Ending.{EndsWith, IsDoneOrKeptFrom, IsOutcome}
+use Rattle.redo_lab.specs.Told.{AreBlank, IsTooShort}
 
 pub unarmed-ends : {D : Type 0} {seen : D → Seen} {gives : D → Call → D → Type 0} {device : D} {old new : Fused D} {error : Option DevError}
     → IsUnarmed 0 (guarded seen device old) → MakesCalls (CallsThrough seen gives) old new (EndWith error) → IsUnarmed (failures error) (guarded seen device new)

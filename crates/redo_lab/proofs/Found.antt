@@ -3,7 +3,7 @@ use Rattle.std.proofs.Common.{ℕ, ◌≡◌, ◌≢◌, ◌<◌, ◌+◌, cond,
 use Rattle.model_base.proofs.ShapeLimits.{default_within}
 use Rattle.model_base.specs.{default_shape, IsWithinLimits, run_shape}
 use Rattle.model_base.specs.declared.shape.Shape.{Shape}
-use Rattle.model_device.specs.Disk.{Disk}
+use Rattle.model_device.specs.{Disk}
 use Rattle.model_log.specs.{fits_checksum, head_among, head_of, header_block, layout_of, newest_checkpoint, read_head}
 use Rattle.model_log.specs.declared.head.Format.{Format}
 use Rattle.model_log.specs.declared.head.Format.TheVariants.{One, Two, Three}
@@ -13,8 +13,7 @@ use Rattle.model_parts.proofs.Unread.{unsealed-head, zeros-unsealed}
 use Rattle.model_parts.specs.{formatted_store, IsAtRest, IsOpenable, IsUnsealed, KeepsOpened, numbers_taken, zero_block}
 use Rattle.model_script.specs.declared.script.ScriptLine.{ScriptLine}
 use Rattle.model_store.proofs.Heads.{head-limits}
-use Rattle.model_store.specs.{IsFair, IsFairLog, IsReading, IsUnused, Opens, OpensOrderly}
-use Rattle.model_store.specs.Reading.{Reading}
+use Rattle.model_store.specs.{IsFair, IsFairLog, IsReading, IsUnused, Opens, OpensOrderly, Reading}
 use Rattle.model_store.specs.declared.refusal.Refusal.TheVariants.{NotFormatted}
 use Rattle.model_theorem.proofs.Sizes.{own-fair}
 use Rattle.model_theorem.specs.{HasCheckpoint, HeldOlder, IsOpenedBefore, Opened, opened_as, ReadsPrefix}
@@ -24,7 +23,7 @@ use Rattle.redo_lab.proofs.Told.{some-told}
 use Rattle.redo_lab.specs.Call.{IsSettledAtEntry, LabCall, WhereOpened}
 use Rattle.redo_lab.specs.Devices.{AreArmed, ArePrepared}
 use Rattle.redo_lab.specs.Laws.{Laws}
-use Rattle.redo_lab.specs.Store.{DevicesOpenAs}
+use Rattle.redo_lab.specs.Told.{DevicesOpenAs}
 
 -- a device that told goes on telling
 -- what two equal devices tell is the same
@@ -159,7 +158,7 @@ stopped-before reading log data_disk left openable unmoved = record {
   number = reading.number;
   ckpt = reading.ckpt;
   found = record { runs_by = refl; format = reading.format; newest = found-checkpoint reading log data_disk openable };
-  unmoved = unmoved;
+  ends = unmoved;
 }
 
 -- a store that can be opened has sizes within the limits

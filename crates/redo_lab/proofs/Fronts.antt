@@ -1,6 +1,5 @@
 -- The groups of a legal history that end at or below an lsn stand in front.
-use Rattle.std.proofs.Common.{Bool, List, [], ap, arith, cond, false, length, refl, suc, sym, take, true}
-use Rattle.std.proofs.Common.{ℕ, ◌+◌, ◌++◌, ◌<◌, ◌∙◌, ◌∷◌, ◌≡◌}
+use Rattle.std.proofs.Common.{Bool, List, [], ap, arith, cond, false, length, refl, suc, sym, take, true, ℕ, ◌+◌, ◌++◌, ◌<◌, ◌∙◌, ◌∷◌, ◌≡◌}
 use Rattle.std.proofs.lemmas.Bool.{leb-false, leb-true}
 use Rattle.std.proofs.lemmas.List.Sums.{sum_by-cons}
 use Rattle.std.specs.Prelude.{nat_le}
@@ -12,7 +11,7 @@ use Rattle.model_report.specs.{count_up_to, whole_of, wholes_of}
 use Rattle.model_report.specs.declared.entry.Entry.{Entry}
 use Rattle.model_script.specs.declared.script.ScriptLine.{ScriptLine}
 use Rattle.redo_drive.specs.Followed.{given_of, given_upto}
-use Rattle.redo_follow.specs.Tallying.{joined_given}
+use Rattle.redo_follow.specs.{joined_given}
 
 module _ (script : List ScriptLine) (space lsn : ℕ) where
   abbrev wholes : List Entry → List Whole

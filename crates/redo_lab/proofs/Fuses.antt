@@ -4,8 +4,7 @@ use Rattle.std.proofs.lemmas.Bool.{false≢true}
 use Rattle.std.specs.Option.{option_and_then}
 use Rattle.model_base.specs.{HasRisen}
 use Rattle.redo_io.specs.{next_count_if, saturating_next}
-use Rattle.redo_disk.specs.{Call, changing_calls, failed_calls, failures, Makes, MakesCalls, MayEndWith, Reads, ReadsMayEndWith, Syncs, Writes}
-use Rattle.redo_disk.specs.Seen.{Seen}
+use Rattle.redo_disk.specs.{Call, changing_calls, failed_calls, failures, Makes, MakesCalls, MayEndWith, Reads, ReadsMayEndWith, Syncs, Writes, Seen}
 use Rattle.redo_disk.specs.declared.error.DevError.{DevError}
 use Rattle.redo_disk.specs.declared.error.DevError.TheVariants.{Failed, NoMemory}
 use Rattle.redo_disk.proofs.Calls.{changing_calls-reads, failed_calls-may_end}

@@ -6,8 +6,8 @@ use Rattle.model_archive.specs.{IsFairArchive}
 use Rattle.model_base.specs.{HasRisen}
 use Rattle.model_base.specs.declared.limits.TheConstants.{START_LSN}
 use Rattle.model_base.specs.declared.shape.Shape.{Shape}
-use Rattle.model_core.specs.Actors as model
-use Rattle.model_device.specs.Disk.{Disk}
+use Rattle.model_core.specs.States as model
+use Rattle.model_device.specs.{Disk}
 use Rattle.model_log.specs.{block_of, groups_of}
 use Rattle.model_page.specs.declared.content.Content.{Content}
 use Rattle.model_report.proofs.Groups.{have-lines}
@@ -21,14 +21,12 @@ use Rattle.redo_archive.specs.Part.{Part}
 use Rattle.redo_archiver.specs.{IsToFinish}
 use Rattle.redo_disk.proofs.Made.{ends_then, serves_end}
 use Rattle.redo_disk.proofs.Told.{known-as, still-known}
-use Rattle.redo_disk.specs.{Call, EndWith, MakesCalls}
-use Rattle.redo_disk.specs.Seen.{Seen}
+use Rattle.redo_disk.specs.{Call, EndWith, MakesCalls, Seen}
 use Rattle.redo_disk.specs.declared.error.DevError.{DevError}
 use Rattle.redo_disk.specs.declared.error.DevError.TheVariants.{Failed}
 use Rattle.redo_drive.proofs.ArchiveGroups.{risen_since}
-use Rattle.redo_drive.specs.Archived.{ArchivesRun, HasArchived, HaveArchived, HoldsFrom}
+use Rattle.redo_drive.specs.{ArchivesRun, HasArchived, HaveArchived, HoldsFrom, MayBegin}
 use Rattle.redo_drive.specs.Drive.{ReadsToMarks, WhereStarted, closed_run}
-use Rattle.redo_drive.specs.Startable.{MayBegin}
 use Rattle.redo_drive.specs.declared.drive.Driven.{Driven}
 use Rattle.redo_drive.specs.declared.drive.RunEnd.TheVariants.{Done}
 use Rattle.redo_finish.specs.{Finishes}
@@ -40,10 +38,9 @@ use Rattle.redo_lab.proofs.Archives.{ArchiveReads, archived-as, block-rises}
 use Rattle.redo_lab.proofs.DrivenEnds.{UpTo}
 use Rattle.redo_lab.proofs.Opening.{at-start}
 use Rattle.redo_lab.proofs.Owed.{IsOwed, IsReadAfter, owed-back, read-none, read-some, reads-back}
-use Rattle.redo_lab.specs.Archived.{IsArchiveOf}
+use Rattle.redo_lab.specs.Told.{IsArchiveOf}
 use Rattle.redo_lab.specs.Archiving.{ArchivesRan, AreBegun, HaveFinished, device_of, failed_of, read_back, IsUnfused}
-use Rattle.redo_lab.specs.Call.{IsWellCalled, Unfused, unfused}
-use Rattle.redo_lab.specs.Handed.{IsOpenedAt}
+use Rattle.redo_lab.specs.Call.{IsWellCalled, Unfused, unfused, IsOpenedAt}
 use Rattle.redo_lab.specs.Runs.{AreWellCalled, IsUncut}
 use Rattle.redo_lab.specs.declared.playing.Course.{Course}
 

@@ -1,7 +1,7 @@
 -- A store that was opened, or wasn't, on two devices whose fuses are armed.
 use Rattle.std.proofs.Common.{ℕ, ◌≡◌, ◌≢◌, ◌≤◌, ◌<◌, ◌+◌, List, [], length, Option, Some, None, Ok, Err, IfSome, refl, sym, subst, ◌∙◌, arith}
 use Rattle.model_base.specs.{default_shape}
-use Rattle.model_device.specs.Disk.{Disk}
+use Rattle.model_device.specs.{Disk}
 use Rattle.model_log.specs.declared.layout.TheConstants.{HEADER_BYTES}
 use Rattle.model_parts.specs.{formatted_store, IsOpenable, KeepsOpened}
 use Rattle.model_report.specs.declared.fault.Fault.TheVariants as fault
@@ -10,13 +10,11 @@ use Rattle.model_script.specs.declared.asked.Command.{Command}
 use Rattle.model_script.specs.declared.asked.Drive.{Drive}
 use Rattle.model_script.specs.declared.misfit.Misfit.{Misfit}
 use Rattle.model_script.specs.declared.script.ScriptLine.{ScriptLine}
-use Rattle.model_store.specs.{IsOrderly, RefusesToOpen}
-use Rattle.model_store.specs.Reading.{Reading}
+use Rattle.model_store.specs.{IsOrderly, RefusesToOpen, Reading}
 use Rattle.model_store.specs.declared.refusal.Refusal.{Refusal}
 use Rattle.model_store.specs.declared.refusal.Refusal.TheVariants as refusal
 use Rattle.model_theorem.specs.{opened_as}
-use Rattle.redo_disk.specs.{Call, failures, MakesCalls, MayEndWith}
-use Rattle.redo_disk.specs.Seen.{Seen}
+use Rattle.redo_disk.specs.{Call, failures, MakesCalls, MayEndWith, Seen}
 use Rattle.redo_disk.specs.declared.error.DevError.{DevError}
 use Rattle.redo_disk.proofs.Made.{weaker_calls}
 use Rattle.redo_drive.specs.{room_from}
@@ -38,13 +36,11 @@ use Rattle.redo_lab.proofs.Fuses.{armed-calls}
 use Rattle.redo_lab.proofs.Opening.{HasEnd, has-end, opened-reads, opened_at, opens-as, refused-at, refused-kept, stopped-first, unplayed-memory, unplayed-misfit, unplayed-refused}
 use Rattle.redo_lab.proofs.Rereading.{armed-as, prepared-later, was_of}
 use Rattle.redo_lab.proofs.Told.{both-told, moved, still-equal, still-keeps, still-moves, weaker-both}
-use Rattle.redo_lab.specs.Cause.{archive_size}
-use Rattle.redo_lab.specs.Call.{LabCall}
+use Rattle.redo_lab.specs.Cause.{archive_size, EndsWith}
+use Rattle.redo_lab.specs.Call.{LabCall, call_on, Handed}
 use Rattle.redo_lab.specs.Devices.{AreArmed, AreAsArmed}
-use Rattle.redo_lab.specs.Handed.{call_on, Handed}
 use Rattle.redo_lab.specs.Laws.{Laws}
 use Rattle.redo_lab.specs.Runs.{ComesTo, CommandRuns, IsLeftBy, StandsReady, unopened}
-use Rattle.redo_lab.specs.Ending.{EndsWith}
 
 -- CALLS OF BOTH DEVICES since their fuses were armed
 pub armed-after : {L D : Type 0} {log_seen : L → Seen} {log_gives : L → Call → L → Type 0} {data_seen : D → Seen} {data_gives : D → Call → D → Type 0}

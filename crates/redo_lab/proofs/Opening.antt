@@ -5,7 +5,7 @@ use Rattle.model_base.proofs.ShapeLimits.{default_within}
 use Rattle.model_base.specs.declared.shape.Shape.{Shape}
 use Rattle.model_base.specs.{default_shape, HasRisen, run_shape}
 use Rattle.model_base.specs.declared.limits.TheConstants.{BLOCK_SIZE}
-use Rattle.model_device.specs.Disk.{Disk}
+use Rattle.model_device.specs.{Disk}
 use Rattle.model_log.specs.{block_of, IsAtDataStart, start_after}
 use Rattle.model_log.specs.declared.layout.TheConstants.{BLOCK_HEADER}
 use Rattle.model_parts.specs.{formatted_store, IsOpenable, KeepsOpened}
@@ -15,8 +15,7 @@ use Rattle.model_script.specs.declared.asked.Drive.{Drive}
 use Rattle.model_script.specs.declared.misfit.Misfit.{Misfit}
 use Rattle.model_script.specs.declared.script.ScriptLine.{ScriptLine}
 use Rattle.model_page.specs.{data_device_length}
-use Rattle.model_store.specs.{IsReading, IsUnused, RefusesToOpen}
-use Rattle.model_store.specs.Reading.{Reading}
+use Rattle.model_store.specs.{IsReading, IsUnused, RefusesToOpen, Reading}
 use Rattle.model_store.specs.declared.refusal.Refusal.{Refusal}
 use Rattle.model_store.specs.declared.refusal.Refusal.TheVariants as refusal
 use Rattle.model_theorem.specs.{IsOpenedBefore, misfit_on, Opened, opened_as}
@@ -26,21 +25,17 @@ use Rattle.redo_store.specs.{IsRunnable}
 use Rattle.redo_store.specs.declared.opened.Opened as store
 use Rattle.redo_recover.specs.{OnContents}
 use Rattle.model_script.specs.declared.asked.Command.TheVariants.{Run}
-use Rattle.redo_lab.specs.Asked.{IsScriptFor}
+use Rattle.redo_lab.specs.Call.{IsScriptFor, HaveSameContents, LabCall, WhereToldAtEntry}
 use Rattle.redo_lab.specs.declared.outcome.Outcome.TheVariants as outcome
 use Rattle.redo_lab.specs.declared.playing.Stops.{Stops}
 use Rattle.redo_lab.proofs.Ends.{ends-refused, ends-with, in-run, leaves-read, leaves-run, left-read, runs-script, tells-armed, unfailed-armed}
 use Rattle.redo_lab.proofs.Found.{found-armed, one-opened, openable-limits, prefix-opened, stopped-before}
-use Rattle.redo_lab.proofs.Told.{both-told, on-contents}
-use Rattle.redo_lab.proofs.Told.{some-tells, some-told}
-use Rattle.redo_lab.specs.Call.{HaveSameContents, LabCall, WhereToldAtEntry}
-use Rattle.redo_lab.specs.Cause.{archive_size, CanPlay, EndsBefore}
+use Rattle.redo_lab.proofs.Told.{both-told, on-contents, some-tells, some-told}
+use Rattle.redo_lab.specs.Cause.{archive_size, CanPlay, EndsBefore, EndsWith}
 use Rattle.redo_lab.specs.Devices.{AreArmed}
 use Rattle.redo_lab.specs.Laws.{Laws}
 use Rattle.redo_lab.specs.Runs.{CommandRuns}
-use Rattle.redo_lab.specs.Store.{AreReadAsPrefix, DevicesOpenAs}
-use Rattle.redo_lab.specs.Told.{AreLeftRead, IsOpenedFirst}
-use Rattle.redo_lab.specs.Ending.{EndsWith}
+use Rattle.redo_lab.specs.Told.{AreReadAsPrefix, DevicesOpenAs, AreLeftRead, IsOpenedFirst}
 
 -- the opened store, as the theorem has it: its log ends there
 abbrev pub opened_at : {L D : Type 0} → store.Opened L D → ℕ → Opened
@@ -219,17 +214,19 @@ module _ (call : LabCall) (command : Command) (drive : Drive) (stops : Stops) (s
   unplayed-archive asked is same archived log_none data_none opened opens fits risen = ends-with call command drive script running laws (outcome.Fault fault.ArchiveDevice) (tells-armed armed)
       (leaves-read call script None reads) (
         risen,
-        subst (EndsBefore call) (sym (is ∙ ap Run same)) (record {
-          asked = archived;
-          script = script;
-          is_script = subst (λ (c : Command). IsScriptFor c call.source call.source_now script) (is ∙ ap Run same) running.is_script;
-          opened = opened;
-          opens = opens;
-          fits = fits;
-          unfailed = unfailed-armed armed log_none data_none;
-          in_run = in-run armed;
-          reads = reads;
-        }),
+        subst (EndsBefore call) (sym (is ∙ ap Run same)) (
+          archived,
+          unfailed-armed armed log_none data_none,
+          record {
+            script = script;
+            opened = opened;
+            is_script = subst (λ (c : Command). IsScriptFor c call.source call.source_now script) (is ∙ ap Run same) running.is_script;
+            opens = opens;
+            judged = fits;
+            in_run = in-run armed;
+            reads = reads;
+          },
+        ),
       )
       (λ can unfailed. absurd (can.archive_unfailed archived risen))
 
@@ -239,17 +236,19 @@ module _ (call : LabCall) (command : Command) (drive : Drive) (stops : Stops) (s
       (leaves-read call script None reads)
       (inr (
         unfailed-armed armed log_none data_none,
-        record {
-          drive = drive;
-          asked = running.asked;
-          script = script;
-          opened = opened;
-          is_script = running.is_script;
-          opens = opens;
-          first = first;
-          in_run = in-run armed;
-          reads = reads;
-        },
+        (
+          drive,
+          running.asked,
+          record {
+            script = script;
+            opened = opened;
+            is_script = running.is_script;
+            opens = opens;
+            judged = first;
+            in_run = in-run armed;
+            reads = reads;
+          },
+        ),
       ))
       (λ can unfailed. absurd (misfits can))
     where

@@ -7,14 +7,11 @@ use Rattle.model_report.specs.{IsLeft}
 use Rattle.model_script.specs.declared.script.ScriptLine.{ScriptLine}
 use Rattle.model_theorem.specs.{IsClosed, IsRun, IsStart, LosesOnlyByFailure, opened_as}
 use Rattle.redo_disk.proofs.Told.{known-as, still-known, still-same}
-use Rattle.redo_disk.specs.{Call, failures}
-use Rattle.redo_disk.specs.Seen.{Seen, StillTells}
+use Rattle.redo_disk.specs.{Call, failures, Seen, StillTells}
 use Rattle.redo_disk.specs.declared.error.DevError.{DevError}
 use Rattle.redo_disk.specs.declared.error.DevError.TheVariants.{NoMemory}
 use Rattle.redo_drive.proofs.CallsOn.{calls_then}
-use Rattle.redo_drive.specs.{HasMemory, HoldsRun, IsOwedSynced, Owes, closed_run}
-use Rattle.redo_drive.specs.Archived.{IsReadBack}
-use Rattle.redo_drive.specs.Calls.{CallsOn}
+use Rattle.redo_drive.specs.{HasMemory, HoldsRun, IsOwedSynced, Owes, closed_run, IsReadBack, CallsOn}
 use Rattle.redo_drive.specs.Drive.{ReadsToMarks, failed_in}
 use Rattle.redo_drive.specs.declared.drive.Driven.{Driven}
 use Rattle.redo_drive.specs.declared.drive.RunEnd.TheVariants as ended
@@ -24,7 +21,7 @@ use Rattle.redo_memdisk.specs.declared.fused.Fused.{Fused}
 use Rattle.redo_store.specs.declared.opened.Opened.{Opened}
 use Rattle.redo_lab.proofs.Behind.{calls-same, same-fused}
 use Rattle.redo_lab.specs.Archiving.{read_back}
-use Rattle.redo_lab.specs.Handed.{IsSameFused}
+use Rattle.redo_lab.specs.Call.{IsSameFused}
 
 -- A run, and the same once blocks were read back: it ended so, and came so far; and the devices are the same, later.
 pub record IsReadAfter {L D : Type 0} (log_seen : L → Seen) (data_seen : D → Seen) (start : ℕ) (first driven : Driven (Fused L) (Fused D)) : Type 0 where

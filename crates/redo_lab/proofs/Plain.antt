@@ -1,6 +1,6 @@
 -- What the commands come to that read both devices and run nothing.
-use Rattle.model_store.specs.{IsReading}
-use Rattle.model_device.specs.Disk.{Disk}
+use Rattle.model_store.specs.{IsReading, Reading}
+use Rattle.model_device.specs.{Disk}
 use Rattle.redo_lab.proofs.Told.{still-equal}
 use Rattle.std.proofs.Common.{ℕ, ◌≡◌, ◌<◌, Bool, true, if◌then◌else◌, List, Some, None, Option, Result, Ok, Err, IfOk, ap, subst, ◌∙◌, arith}
 use Rattle.std.proofs.lemmas.Bool.{false≢true}
@@ -11,10 +11,8 @@ use Rattle.model_report.specs.{dump_text, recover_text}
 use Rattle.model_report.specs.declared.fault.Fault.TheVariants as fault
 use Rattle.model_script.specs.declared.asked.Command.{Command}
 use Rattle.model_script.specs.declared.asked.Command.TheVariants.{Recover, Dump}
-use Rattle.model_store.specs.Reading.{Reading}
 use Rattle.model_store.specs.declared.refusal.Refusal.{Refusal}
-use Rattle.redo_disk.specs.{Call, failures, MakesCalls, ReadsMayEndWith, StillTells}
-use Rattle.redo_disk.specs.Seen.{Seen}
+use Rattle.redo_disk.specs.{Call, failures, MakesCalls, ReadsMayEndWith, StillTells, Seen}
 use Rattle.redo_disk.specs.declared.error.DevError.{DevError}
 use Rattle.redo_disk.proofs.Calls.{changing_calls-reads}
 use Rattle.redo_disk.proofs.Made.{weaker_calls}
@@ -28,14 +26,11 @@ use Rattle.redo_lab.specs.declared.outcome.Outcome.TheVariants as outcome
 use Rattle.redo_lab.proofs.Fuses.{unarmed-calls, unarmed-fresh}
 use Rattle.redo_lab.proofs.Rereading.{ReadsTo}
 use Rattle.redo_lab.proofs.Telling.{reads-keep}
-use Rattle.redo_lab.specs.Answer.{IsListing, IsReadOff}
-use Rattle.redo_lab.specs.Asked.{runs_script}
-use Rattle.redo_lab.specs.Call.{AreUnfailedFor, BothDevices, Guarded, IsUnfailed, IsUnwritten, LabCall, WhereToldAtEntry, guarded}
-use Rattle.redo_lab.specs.Cause.{CanRead, IsDeviceFault, IsPastSource, IsPossible, IsUnbegun, LeavesFailed}
+use Rattle.redo_lab.specs.Cause.{IsListing, IsReadOff, EndsWith, IsDoneOrKeptFrom, IsOutcome, CanRead, IsDeviceFault, IsPastSource, IsPossible, IsUnbegun, LeavesFailed}
+use Rattle.redo_lab.specs.Call.{runs_script, AreUnfailedFor, BothDevices, Guarded, IsUnfailed, IsUnwritten, LabCall, WhereToldAtEntry, guarded}
 use Rattle.redo_lab.specs.Devices.{IsUnarmed}
 use Rattle.redo_lab.specs.Laws.{Laws}
-use Rattle.redo_lab.specs.Store.{AreRefused}
-use Rattle.redo_lab.specs.Ending.{EndsWith, IsDoneOrKeptFrom, IsOutcome}
+use Rattle.redo_lab.specs.Told.{AreRefused}
 
 -- a device that was only read, of which so many calls failed
 abbrev pub IsOnlyRead : ℕ → Guarded → Type 0

@@ -3,7 +3,7 @@ use Rattle.std.proofs.Common.{ℕ, ◌≡◌, ◌≤◌, ◌<◌, ◌↔◌, Lis
 use Rattle.std.proofs.lemmas.Bool.{cases_lt, false≢true}
 use Rattle.model_base.specs.{default_shape}
 use Rattle.model_base.specs.declared.shape.Shape.{Shape}
-use Rattle.model_device.specs.Disk.{Disk}
+use Rattle.model_device.specs.{Disk}
 use Rattle.model_log.specs.{log_device_length}
 use Rattle.model_log.specs.declared.layout.TheConstants.{HEADER_BYTES}
 use Rattle.model_page.specs.{data_device_length}
@@ -15,8 +15,7 @@ use Rattle.model_script.specs.declared.script.ScriptLine.{ScriptLine}
 use Rattle.model_store.specs.{IsUnused}
 use Rattle.model_store.specs.declared.refusal.Refusal.{Refusal}
 use Rattle.model_store.specs.declared.refusal.Refusal.TheVariants as refusal
-use Rattle.redo_disk.specs.{Call, failures, HasSize, MakesCalls}
-use Rattle.redo_disk.specs.Seen.{Seen}
+use Rattle.redo_disk.specs.{Call, failures, HasSize, MakesCalls, StillTells, Seen}
 use Rattle.redo_disk.specs.declared.error.DevError.{DevError}
 use Rattle.redo_disk.specs.declared.error.DevError.TheVariants as device
 use Rattle.redo_disk.proofs.Calls.{MayEndWith-ends}
@@ -33,17 +32,15 @@ use Rattle.redo_lab.proofs.Ends.{AreTelling, at-some, ends-refused, leaves-unpre
 use Rattle.redo_lab.proofs.Formats.{BothUnarmed, FormatsTo}
 use Rattle.redo_lab.proofs.Fuses.{unarmed-calls, unarmed-fresh}
 use Rattle.redo_lab.proofs.Telling.{reads-keep}
-use Rattle.redo_disk.specs.{StillTells}
 use Rattle.redo_disk.proofs.Told.{still-same}
 use Rattle.redo_lab.proofs.Told.{both-told, still-equal}
 use Rattle.redo_lab.specs.Call.{BothDevices, Guarded, HaveSameContents, LabCall, WhereToldAtEntry, WhereToldNow, guarded}
-use Rattle.redo_lab.specs.Cause.{AreLongEnough, CanPlay, IsUnprepared}
+use Rattle.redo_lab.specs.Cause.{AreLongEnough, CanPlay, IsUnprepared, EndsWith}
 use Rattle.redo_lab.specs.Devices.{ArePrepared, IsFirstRead, IsUnarmed, to_be_armed}
 use Rattle.redo_lab.proofs.Found.{unused-unread}
 use Rattle.redo_lab.specs.Laws.{Laws}
 use Rattle.redo_lab.specs.Runs.{CommandRuns, fault_of}
-use Rattle.redo_lab.specs.Store.{IsTooShort}
-use Rattle.redo_lab.specs.Ending.{EndsWith}
+use Rattle.redo_lab.specs.Told.{IsTooShort}
 
 -- The log device after its first read, which answered this; and the data device, of which no call was made.
 pub record IsReadFirst (failed : ℕ) (log store : Guarded) : Type 0 where

@@ -6,7 +6,7 @@ use Rattle.std.proofs.lemmas.List.{length-append, take-append-le}
 use Rattle.std.proofs.lemmas.Bool.{cases_lt}
 use Rattle.model_base.specs.{HasRisen, last_count}
 use Rattle.redo_io.specs.{SinkSeen, TakesPart, with_taken}
-use Rattle.redo_lab.specs.Ending.{IsPutOut}
+use Rattle.redo_lab.specs.Cause.{IsPutOut}
 
 -- what is taken in two goes
 taken-twice : (old : Option (List ℕ)) (first second : List ℕ) → with_taken (with_taken old first) second ≡ with_taken old (first ++ second)

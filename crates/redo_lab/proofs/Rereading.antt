@@ -1,15 +1,11 @@
 -- Two devices that are read by recovery after a run, with a crash of both between or without one.
-use Rattle.std.proofs.Common.{ℕ, ◌≡◌, ◌≢◌, ◌<◌, List, Option, Some, None, Result, Ok, Err, IfOk}
-use Rattle.std.proofs.Common.{ap, arith, inl, inr, length, sym, ◌∙◌, ⊎_elim}
-use Rattle.model_device.specs.{Crashes}
-use Rattle.model_device.specs.Disk.{Disk}
+use Rattle.std.proofs.Common.{ℕ, ◌≡◌, ◌≢◌, ◌<◌, List, Option, Some, None, Result, Ok, Err, IfOk, ap, arith, inl, inr, length, sym, ◌∙◌, ⊎_elim}
+use Rattle.model_device.specs.{Crashes, Disk}
 use Rattle.model_report.specs.declared.fault.Fault.TheVariants as fault
-use Rattle.model_store.specs.{IsReading, Refuses}
-use Rattle.model_store.specs.Reading.{Reading}
+use Rattle.model_store.specs.{IsReading, Refuses, Reading}
 use Rattle.model_store.specs.declared.refusal.Refusal.{Refusal}
 use Rattle.model_store.specs.declared.refusal.Refusal.TheVariants as refusal
-use Rattle.redo_disk.specs.{Call, failed_calls, failures, MakesCalls, ReadsMayEndWith, StillTells, WhereTold}
-use Rattle.redo_disk.specs.Seen.{Seen}
+use Rattle.redo_disk.specs.{Call, failed_calls, failures, MakesCalls, ReadsMayEndWith, StillTells, WhereTold, Seen}
 use Rattle.redo_disk.specs.declared.error.DevError.{DevError}
 use Rattle.redo_disk.proofs.Made.{weaker_calls}
 use Rattle.redo_memdisk.proofs.Behind.{counts-calls, keeps-behind}
@@ -29,7 +25,7 @@ use Rattle.redo_lab.proofs.Told.{on-contents, where-after, where-back}
 use Rattle.redo_lab.specs.Call.{Guarded, LabCall, guarded}
 use Rattle.redo_lab.specs.Devices.{ArePrepared, IsArmed}
 use Rattle.redo_lab.specs.Runs.{fault_of, outcome_of}
-use Rattle.redo_lab.specs.Store.{AreRefused}
+use Rattle.redo_lab.specs.Told.{AreRefused}
 
 -- a device of a call as it was before
 pub record Was : Type 0 where

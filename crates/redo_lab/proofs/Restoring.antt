@@ -5,7 +5,7 @@ use Rattle.model_archive.specs.{IsRestored, RefusesRestore}
 use Rattle.model_archive.specs.declared.refusal.RestoreRefusal.{RestoreRefusal}
 use Rattle.model_archive.specs.declared.refusal.RestoreRefusal.TheVariants as refusal
 use Rattle.model_base.specs.{HasRisen}
-use Rattle.model_device.specs.Disk.{Disk}
+use Rattle.model_device.specs.{Disk}
 use Rattle.model_page.specs.declared.content.Content.{Content}
 use Rattle.model_report.specs.{restored_text}
 use Rattle.model_report.specs.declared.fault.Fault.TheVariants as fault
@@ -15,16 +15,14 @@ use Rattle.redo_archive.specs.declared.restored.RestoreFault.{RestoreFault}
 use Rattle.redo_archive.specs.declared.restored.RestoreFault.TheVariants.{Missing, To, Page, Block, Record, Dev, NoMemory}
 use Rattle.redo_disk.proofs.Calls.{MayEndWith-good}
 use Rattle.redo_disk.proofs.Made.{weaker_calls}
-use Rattle.redo_disk.specs.{Call, MakesCalls, ReadsMayEndWith}
-use Rattle.redo_disk.specs.Seen.{StillTells}
+use Rattle.redo_disk.specs.{Call, MakesCalls, ReadsMayEndWith, StillTells}
 use Rattle.redo_lab.specs.declared.outcome.Outcome.{Outcome}
 use Rattle.redo_lab.specs.declared.outcome.Outcome.TheVariants as outcome
 use Rattle.redo_lab.proofs.Alone.{IsLeftAlone, tells-alone, unfailed-alone, unwritten-alone}
 use Rattle.redo_lab.proofs.Ends.{at-some}
 use Rattle.redo_lab.proofs.Told.{still-equal}
 use Rattle.redo_lab.specs.Call.{BothDevices, IsWellCalled, LabCall, WhereArchiveTold}
-use Rattle.redo_lab.specs.Cause.{CanRestore}
-use Rattle.redo_lab.specs.Ending.{EndsWith, IsDoneOrKeptFrom, IsOutcome, WhereDone}
+use Rattle.redo_lab.specs.Cause.{CanRestore, EndsWith, IsDoneOrKeptFrom, IsOutcome, WhereDone}
 use Rattle.redo_lab.specs.Restoring.{unrestored}
 use Rattle.redo_lab.specs.Runs.{outcome_of}
 

@@ -24,17 +24,12 @@ use Rattle.redo_lab.proofs.Told.{some-told, still-at}
 use Rattle.redo_lab.proofs.ByDrive.{Drives, DrivesLater}
 use Rattle.redo_lab.proofs.Rereading.{IsReadSince, ReadsTo, Was, before, prepared-later}
 use Rattle.redo_lab.proofs.SomeLeft.{some-left}
-use Rattle.redo_lab.specs.Asked.{IsScriptFor, IsScriptRead, drive_of_seed}
-use Rattle.redo_lab.specs.Call.{Guarded, LabCall, Unfused, WhereToldNow, mids}
-use Rattle.redo_lab.specs.Cause.{CanPlay}
+use Rattle.redo_lab.specs.Call.{IsScriptFor, IsScriptRead, drive_of_seed, Guarded, LabCall, Unfused, WhereToldNow, mids}
+use Rattle.redo_lab.specs.Cause.{CanPlay, EndsWith, SparesArchive, WhereDone}
 use Rattle.redo_lab.specs.Devices.{IsArmed}
 use Rattle.redo_lab.specs.Laws.{Laws}
-use Rattle.redo_lab.specs.Runs.{ComesTo, CommandRuns, HasEnded, HasFailed, IsLeftBy, IsPlayedTo, IsReportOf}
-use Rattle.redo_lab.specs.Runs.{IsRunPrinted, IsToldRightly, IsUncut, ran_of, summary_of}
-use Rattle.redo_lab.specs.Store.{AreRefused}
-use Rattle.redo_lab.specs.Archived.{IsArchived, IsReportWith}
-use Rattle.redo_lab.specs.Told.{IsRunText, IsSummaryText}
-use Rattle.redo_lab.specs.Ending.{EndsWith, SparesArchive, WhereDone}
+use Rattle.redo_lab.specs.Runs.{ComesTo, CommandRuns, HasEnded, HasFailed, IsLeftBy, IsPlayedTo, IsReportOf, IsRunPrinted, IsToldRightly, IsUncut, ran_of, summary_of}
+use Rattle.redo_lab.specs.Told.{AreRefused, IsArchived, IsReportWith, IsRunText, IsSummaryText}
 
 -- OPENING WAS STOPPED.
 pub ends-stopped : (call : LabCall) (command : Command) (drive : Drive) (script : List ScriptLine) → CommandRuns call.source call.source_now command drive script → Laws

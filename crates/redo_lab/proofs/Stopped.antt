@@ -2,12 +2,10 @@
 use Rattle.std.proofs.Common.{ℕ, ◌≡◌, ◌≢◌, ◌<◌, ◌+◌, List, Option, Some, None, refl, sym, ap, subst, inl, inr, arith, ⊎_elim}
 use Rattle.std.proofs.lemmas.Bool.{cases_lt, false≢true}
 use Rattle.model_base.specs.{default_shape, HasRisen}
-use Rattle.model_device.specs.{IsImage, settled}
-use Rattle.model_device.specs.Disk.{Disk}
+use Rattle.model_device.specs.{IsImage, settled, Disk}
 use Rattle.model_device.specs.declared.write.Write.{Write}
 use Rattle.model_parts.specs.{formatted_store}
-use Rattle.model_store.specs.{IsReading, IsUnused}
-use Rattle.model_store.specs.Reading.{Reading}
+use Rattle.model_store.specs.{IsReading, IsUnused, Reading}
 use Rattle.model_theorem.specs.{AreFormatted, LosesOnlyByFailure}
 use Rattle.redo_lab.specs.Call.{Guarded, mids}
 use Rattle.redo_lab.specs.Crash.{AreArmedFirst, AreCrashedAs, IsCrashedAs}

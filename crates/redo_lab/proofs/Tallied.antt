@@ -1,7 +1,5 @@
 -- Followers as they are made one by one, and as they are told one by one.
-use Rattle.std.proofs.Common.{List, None, Some, [], add-one, ap, append-nil, append_assoc, arith, drop, drop-cons}
-use Rattle.std.proofs.Common.{get_or, length, length-append, refl, subst, suc, sym, ⊎_elim}
-use Rattle.std.proofs.Common.{ℕ, ◌+◌, ◌++◌, ◌<◌, ◌∙◌, ◌∷◌, ◌≡◌, ◌≤◌}
+use Rattle.std.proofs.Common.{List, None, Some, [], add-one, ap, append-nil, append_assoc, arith, drop, drop-cons, get_or, length, length-append, refl, subst, suc, sym, ⊎_elim, ℕ, ◌+◌, ◌++◌, ◌<◌, ◌∙◌, ◌∷◌, ◌≡◌, ◌≤◌}
 use Rattle.std.proofs.lemmas.List.{at_drop_all}
 use Rattle.std.proofs.lemmas.Slice.Zip.{AllZip-long}
 use Rattle.std.specs.List.{AllZip}
@@ -10,14 +8,13 @@ use mathlib.Core.Option.{some}
 use Rattle.model_core.specs.{new_reader}
 use Rattle.model_report.specs.declared.entry.Followed.{Followed}
 use Rattle.redo_drive.proofs.Seats.{at_more}
-use Rattle.redo_drive.specs.Views.{followers_in}
-use Rattle.redo_drive.specs.Receiving.{follower_of}
+use Rattle.redo_drive.specs.{followers_in, follower_of}
 use Rattle.redo_drive.specs.declared.actor.Actor.{Actor}
 use Rattle.redo_drive.specs.declared.actor.Actor.TheVariants as own
 use Rattle.redo_drive.specs.declared.seating.TheConstants.{FIRST_FOLLOWER}
 use Rattle.redo_follow.specs.Following.{Following}
-use Rattle.redo_follow.specs.Tallying.{HasTally, Kept}
-use Rattle.redo_lab.specs.Following.{IsToldOf}
+use Rattle.redo_follow.specs.{HasTally, Kept}
+use Rattle.redo_lab.specs.Call.{IsToldOf}
 
 -- AS THEY ARE MADE
 

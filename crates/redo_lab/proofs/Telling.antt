@@ -1,7 +1,6 @@
 -- Calls through a fuse, and what the device behind it tells.
 use Rattle.std.proofs.Common.{ℕ, ◌≡◌, Bool, true, false, List, [], ◌∷◌, refl, ap, ◌∙◌}
-use Rattle.redo_disk.specs.{Answer, AreReads, Call, Makes, Reads, StillTells, Syncs, Writes}
-use Rattle.redo_disk.specs.Seen.{Seen}
+use Rattle.redo_disk.specs.{Answer, AreReads, Call, Makes, Reads, StillTells, Syncs, Writes, Seen}
 use Rattle.redo_disk.proofs.Told.{still-same, still-then}
 use Rattle.redo_memdisk.specs.{CallsThrough, fails_next, ReadsThrough}
 use Rattle.redo_memdisk.specs.declared.fused.Fused.{Fused}

@@ -1,6 +1,6 @@
 -- What is so of devices that tell what they mean.
 use Rattle.std.proofs.Common.{ℕ, ◌≡◌, List, Option, Some, None, IfSome, subst, ◌≢◌, refl, sym, ◌∙◌}
-use Rattle.model_device.specs.Disk.{Disk}
+use Rattle.model_device.specs.{Disk}
 use Rattle.redo_disk.specs.{StillTells, WhereTold}
 use Rattle.redo_open.specs.{WhereBothTell}
 use Rattle.redo_recover.specs.{OnContents}

@@ -5,19 +5,16 @@ use Rattle.model_script.specs.declared.asked.Command.{Command}
 use Rattle.model_script.specs.declared.asked.Command.TheVariants.{Restore}
 use Rattle.model_script.specs.declared.asked.Drive.{Drive}
 use Rattle.redo_disk.proofs.Made.{none_ends}
-use Rattle.redo_disk.specs.{Call}
-use Rattle.redo_disk.specs.Seen.{Seen}
+use Rattle.redo_disk.specs.{Call, Seen}
 use Rattle.redo_io.specs.{SourceSeen}
 use Rattle.redo_lab.proofs.Alone.{all-left}
-use Rattle.redo_lab.specs.Ending.{SparesArchive, WhereDone}
+use Rattle.redo_lab.specs.Cause.{SparesArchive, WhereDone, archive_size}
 use Rattle.redo_lab.specs.declared.crash_command.Crashing.{Crashing}
 use Rattle.redo_lab.specs.declared.outcome.Done.{Done}
 use Rattle.redo_lab.specs.declared.outcome.Outcome.{Outcome}
 use Rattle.redo_lab.specs.declared.outcome.Outcome.TheVariants as outcome
 use Rattle.redo_lab.specs.Allowed.{HasAllowedNumbers}
-use Rattle.redo_lab.specs.Asked.{calls_archive}
-use Rattle.redo_lab.specs.Call.{IsWellCalled, Unfused, unfused}
-use Rattle.redo_lab.specs.Cause.{archive_size}
+use Rattle.redo_lab.specs.Call.{calls_archive, IsWellCalled, Unfused, unfused}
 use Rattle.redo_lab.specs.Done.{IsDoneBy, IsUnreadEnd}
 use Rattle.redo_lab.specs.Runs.{command_with}
 

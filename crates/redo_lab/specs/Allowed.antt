@@ -10,7 +10,7 @@ use Rattle.model_report.specs.declared.fault.Fault.{Fault}
 use Rattle.model_report.specs.declared.fault.Fault.TheVariants.{Memory, Source, Fit}
 use Rattle.model_report.specs.declared.fault.Fault.TheVariants as fault
 use Rattle.redo_io.specs.{SourceSeen}
-use Rattle.redo_lab.specs.Asked.{IsBadLine, IsLongScript}
+use Rattle.redo_lab.specs.Call.{IsBadLine, IsLongScript}
 
 -- the numbers of the command are within its limits, and it archives nothing but the run of a script
 abbrev pub HasAllowedNumbers : Command → Type 0

@@ -11,8 +11,7 @@ use Rattle.model_store.specs.{IsStorable}
 use Rattle.model_theorem.specs.{Opened, Ran}
 use Rattle.redo_archive.specs.{IsBegun, PartArchives}
 use Rattle.redo_archive.specs.Part.{Part}
-use Rattle.redo_disk.specs.{Call}
-use Rattle.redo_disk.specs.Seen.{Seen}
+use Rattle.redo_disk.specs.{Call, Seen}
 use Rattle.redo_disk.specs.declared.error.DevError.{DevError}
 use Rattle.redo_drive.specs.declared.drive.Driven.{Driven}
 use Rattle.redo_drive.specs.declared.drive.RunEnd.TheVariants.{Done}

@@ -1,5 +1,9 @@
 -- What comes before the drive of a run, and after it.
-use Rattle.std.specs.Prelude.{ℕ, ◌≡◌, ◌≤◌, List, [], Option, Result, Ok, Err, IfSome, Vec, length, vec_capacity}
+use Rattle.std.specs.Prelude.{List, [], length, ℕ, ◌≡◌, ◌≤◌, Option, Result, Ok, Err, IfSome, Vec, vec_capacity}
+use lib.ListN.{get_elem?}
+use mathlib.Core.Option.{some}
+use Rattle.redo_follow.specs.Following.{Following}
+use Rattle.redo_follow.specs.{HasTally, Kept}
 use Rattle.std.specs.List.{AllZip}
 use Rattle.std.specs.declared.alloc.Global.{Global}
 use Rattle.model_report.specs.declared.entry.Followed.{Followed}
@@ -9,24 +13,24 @@ use Rattle.model_script.specs.declared.asked.Drive.{Drive}
 use Rattle.model_script.specs.declared.script.ScriptLine.{ScriptLine}
 use Rattle.redo_archive.specs.Part.{Part}
 use Rattle.redo_disk.specs as device
-use Rattle.redo_disk.specs.Seen.{Seen}
-use Rattle.redo_drive.specs.Startable.{AreNewFollowers, IsNewArchive, MayBegin}
-use Rattle.redo_drive.specs.Views.{followers_in}
+use Rattle.redo_disk.specs.{Seen}
+use Rattle.redo_drive.specs.{AreNewFollowers, IsNewArchive, MayBegin, followers_in}
 use Rattle.redo_drive.specs.declared.actor.Actor.{Actor}
 use Rattle.redo_drive.specs.declared.drive.Driven.{Driven}
-use Rattle.redo_follow.specs.Tallying.{Kept}
 use Rattle.redo_memdisk.specs.{CallsThrough, seen_through}
 use Rattle.redo_memdisk.specs.declared.fused.Fused.{Fused}
 use Rattle.redo_lab.specs.Archiving.{AreBegun, HaveFinished, device_of, failed_of, IsUnfused}
-use Rattle.redo_lab.specs.Call.{LabCall}
-use Rattle.redo_lab.specs.Following.{IsToldOf}
-use Rattle.redo_lab.specs.Untold.{AreUntold}
-use Rattle.redo_lab.specs.Handed.{AreOf}
+use Rattle.redo_lab.specs.Call.{LabCall, IsToldOf, AreOf}
 use Rattle.redo_lab.specs.Runs.{IsRanBy, StandsReady, course_of, ended_by, played_of}
 use Rattle.redo_lab.specs.declared.start.Begun.{Begun}
 use Rattle.redo_lab.specs.declared.playing.Course.TheVariants as course
 use Rattle.redo_lab.specs.declared.playing.Ran.{Ran}
 use Rattle.redo_lab.specs.declared.playing.Stops.{Stops}
+
+-- there are so many, and the receiver of each has got nothing
+pub record AreUntold (count : ℕ) (followers : List (Following Kept)) : Type 0 where
+  pub count_is : length followers ≡ count
+  pub none : (i : ℕ) (follower : Following Kept) → get_elem? followers i ≡ some follower → HasTally follower.receiver []
 
 -- A RUN STANDS READY FOR ITS DRIVE: it may begin, with as many new followers as are asked for and room for what is told of them, and
 -- its archive is new, if a device was handed on for one.

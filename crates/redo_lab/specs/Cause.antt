@@ -1,42 +1,45 @@
 -- Why a call ends without the text that it was asked for. The first cause that holds decides: the words, the source and its
 -- script, formatting or opening, the fit, the run, the crash and the reading after it. Want of memory decides where it is met.
 -- And what is owed of a call on devices that don't fail: it does what it is asked, or memory ran out, or turns were spent.
-use Rattle.std.specs.Prelude.{ℕ, if◌then◌else◌, ◌≡◌, ◌≢◌, ◌≤◌, ◌<◌, ◌+◌, ◌⊎◌, true, false, List, [], Option, Some, None, IfSome, ⊤, length, Ok}
+-- THE CONTRACT OF THE TOP CALL stands at the end: what each ending means, and what the text of each command says.
+use Rattle.std.specs.Prelude.{ℕ, if◌then◌else◌, ◌≡◌, ◌≢◌, ◌≤◌, ◌<◌, ◌+◌, ◌⊎◌, true, false, List, [], Option, Some, None, IfSome, ⊤, length, Ok, Bool, ◌++◌}
 use Rattle.model_base.specs.{default_shape, HasRisen}
 use Rattle.model_script.specs.declared.asked.Command.{Command}
 use Rattle.model_script.specs.declared.asked.Command.TheVariants.{Format, Run, Crash, Recover, Dump, Restore, Gen}
 use Rattle.model_script.specs.declared.asked.Drive.{Drive}
-use Rattle.model_log.specs.{log_device_length}
+use Rattle.model_log.specs.{log_device_length, IsStop, layout_of}
 use Rattle.model_log.specs.declared.layout.TheConstants.{HEADER_BYTES}
 use Rattle.model_parts.specs.{KeepsNoStore}
 use Rattle.model_report.specs.declared.fault.Fault.{Fault}
-use Rattle.model_report.specs.declared.fault.Fault.TheVariants.{Memory, Script, Source, LogDevice, DataDevice, ArchiveDevice, Store, Archive, Turns, Fit}
+use Rattle.model_report.specs.declared.fault.Fault.TheVariants.{Memory, Script, Source, LogDevice, DataDevice, ArchiveDevice, Store, Archive, Turns, Fit, Sink, Words}
 use Rattle.model_report.specs.declared.entry.Followed.{Followed}
 use Rattle.model_archive.specs.{IsRestored, RefusesRestore}
 use Rattle.model_archive.specs.declared.refusal.RestoreRefusal.{RestoreRefusal}
 use Rattle.model_page.specs.declared.content.Content.{Content}
-use Rattle.model_script.specs.{generated_lines, script_of}
+use Rattle.model_script.specs.{generated_lines, script_of, generated_text}
 use Rattle.model_script.specs.declared.misfit.Misfit.{Misfit}
 use Rattle.model_script.specs.declared.script.ScriptLine.{ScriptLine}
 use Rattle.model_script.specs.declared.words.TheConstants.{MAX_TURNS}
-use Rattle.model_store.specs.{IsUnused, IsReading, Opens, RefusesToOpen}
+use Rattle.model_store.specs.{IsUnused, IsReading, Opens, RefusesToOpen, Reading}
 use Rattle.model_store.specs.declared.refusal.Refusal.{Refusal}
 use Rattle.model_store.specs.declared.refusal.Refusal.TheVariants.{SmallLog}
 use Rattle.model_theorem.specs.{misfit_on, Opened, Ran, IsRun}
 use Rattle.redo_drive.specs.declared.drive.RunEnd.TheVariants.{Spent}
 use Rattle.redo_memdisk.specs.declared.fuse.Stage.TheVariants.{Before}
-use Rattle.redo_lab.specs.Archived.{IsArchived}
-use Rattle.redo_lab.specs.Answer.{asked_shape}
-use Rattle.redo_lab.specs.Asked.{IsBadLine, IsLongScript, IsScriptFor, IsScriptRead, drive_of, drive_of_seed, reads_script, runs_script}
-use Rattle.redo_lab.specs.Call.{HaveSameContents, AreUnfailedFor, IsSettledAtEntry, LabCall, BothDevices, Guarded, IsInRun, IsUnfailed, IsUnwritten, Unfused, WhereArchiveTold, WhereToldAtEntry, WhereToldNow, IsLeftFair, WhereOpened}
-use Rattle.redo_lab.specs.Crash.{AreCrashedAs}
-use Rattle.redo_lab.specs.Store.{AreReadAsPrefix, AreRefused, DevicesOpenAs, IsTooShort}
-use Rattle.redo_lab.specs.Told.{AreLeftRead, HasRunScript, IsOpenedFirst}
+use Rattle.redo_lab.specs.Told.{IsArchived, AreReadAsPrefix, AreRefused, DevicesOpenAs, IsTooShort, AreLeftRead, HasRunScript, IsOpenedFirst, AreBlank, IsReportWith, IsRunText, IsSummaryText, LeavesStore}
+use Rattle.redo_lab.specs.Call.{asked_shape, IsBadLine, IsLongScript, IsScriptFor, IsScriptRead, drive_of, drive_of_seed, reads_script, runs_script, HaveSameContents, AreUnfailedFor, IsSettledAtEntry, LabCall, BothDevices, Guarded, IsInRun, IsUnfailed, IsUnwritten, Unfused, WhereArchiveTold, WhereToldAtEntry, WhereToldNow, IsLeftFair, WhereOpened, command_of, leaves_devices, IsUnfailedAside, mids}
+use Rattle.redo_lab.specs.Crash.{AreCrashedAs, CrashSafe}
 use Rattle.model_base.specs.declared.limits.TheConstants.{MAX_SCRIPT}
 use Rattle.model_base.specs.declared.shape.Shape.{Shape}
-use Rattle.model_device.specs.Disk.{Disk}
+use Rattle.model_device.specs.{Disk}
 use Rattle.model_page.specs.{data_device_length}
-use Rattle.model_store.specs.Reading.{Reading}
+use Rattle.model_report.specs.{dump_text, format_text, recover_text, restored_text, fault_line, status_of}
+use Rattle.model_log.specs.declared.cause.Cause.{Cause}
+use Rattle.redo_disk.specs.{StillTells}
+use Rattle.redo_io.specs.{SinkSeen, TakesAtMost, TakesPart, with_taken}
+use Rattle.redo_io.specs.declared.read.TheConstants.{PIECE}
+use Rattle.redo_lab.specs.declared.outcome.Outcome.{Outcome}
+use Rattle.redo_lab.specs.declared.outcome.Outcome.TheVariants as outcome
 
 -- where the command reads a script, all that the source had left was read, and is one
 abbrev pub IsPastSource : LabCall → Command → Type 0
@@ -135,38 +138,28 @@ pub record AreTurnsSpent (call : LabCall) (command : Command) (turns user : ℕ)
 abbrev pub archive_size : Unfused → Drive → Option ℕ
 archive_size archive drive = if drive.archive then Some archive.entry.size else None
 
--- A quantity of the script is the first that doesn't fit the store that was opened, and is read as it was.
-pub record IsMisfit (call : LabCall) (command : Command) (misfit : Misfit) : Type 0 where
-  pub drive : Drive
-  pub asked : drive_of command ≡ Some drive
+-- A run of the script was judged so on the store that was opened, which is read as it was: no line was played.
+pub record IsUnplayed (call : LabCall) (command : Command) (drive : Drive) (misfit : Option Misfit) : Type 0 where
   pub script : List ScriptLine
   pub opened : Opened
   pub is_script : IsScriptFor command call.source call.source_now script
   pub opens : WhereToldAtEntry call (DevicesOpenAs opened)
-  pub first : misfit_on drive.log_only (archive_size call.archive drive) opened script ≡ Some misfit
+  pub judged : misfit_on drive.log_only (archive_size call.archive drive) opened script ≡ misfit
   pub in_run : BothDevices IsInRun call
   pub reads : AreLeftRead call script None
+
+-- a quantity of the script is the first that doesn't fit
+abbrev pub IsMisfit : LabCall → Command → Misfit → Type 0
+IsMisfit call command misfit = (drive : Drive) × (drive_of command ≡ Some drive) × IsUnplayed call command drive (Some misfit)
 
 -- no script was read, for this cause, and nothing was written
 abbrev pub IsUnscripted : LabCall → Command → Type 0 → Type 0
 IsUnscripted call command Cause = (reads_script command ≡ true) × Cause × BothDevices IsUnwritten call
 
--- No archive was begun for the run of a script that fits. The store that was opened is read as it was.
-pub record IsUnarchived (call : LabCall) (drive : Drive) : Type 0 where
-  pub asked : drive.archive ≡ true
-  pub script : List ScriptLine
-  pub is_script : IsScriptRead call.source call.source_now script
-  pub opened : Opened
-  pub opens : WhereToldAtEntry call (DevicesOpenAs opened)
-  pub fits : misfit_on drive.log_only (archive_size call.archive drive) opened script ≡ None
-  pub unfailed : BothDevices IsUnfailed call
-  pub in_run : BothDevices IsInRun call
-  pub reads : AreLeftRead call script None
-
--- which command the archive's device ended: `restore`, or a run before its first line
+-- which command the archive's device ended: `restore`, or the run of a script that fits, for which no archive was begun
 abbrev pub EndsBefore : LabCall → Command → Type 0
 EndsBefore call (Restore to) = ⊤
-EndsBefore call (Run drive) = IsUnarchived call drive
+EndsBefore call (Run drive) = (drive.archive ≡ true) × BothDevices IsUnfailed call × IsUnplayed call (Run drive) drive None
 EndsBefore call command = ⊥
 
 -- nothing is restored, for this cause, from what reads of the archive's device gave at entry
@@ -261,3 +254,148 @@ abbrev pub MayKeepFrom : Command → Fault → Type 0
 MayKeepFrom command Memory = ⊤
 MayKeepFrom command (Turns turns user) = (drive : Drive) × (drive_of command ≡ Some drive) × MaySpend drive turns
 MayKeepFrom command _ = ⊥
+
+-- both devices were formatted: whatever a crash would leave is a new store
+pub record IsFormatAnswer (call : LabCall) (shape : Shape) (text : List ℕ) : Type 0 where
+  pub blank : WhereToldNow call (AreBlank shape)
+  pub text_is : text ≡ format_text
+
+-- the store was read
+pub record IsReadOff (call : LabCall) (IsTextOf : Reading → List ℕ → Type 0) (text : List ℕ) : Type 0 where
+  pub reading : Reading
+  pub is_read : WhereToldAtEntry call (λ log store. IsReading log.reads store.reads reading)
+  pub text_is : IsTextOf reading text
+
+-- its listing, and where that is asked why no block is read after these of the log's content
+pub record IsListing (call : LabCall) (why : Bool) (reading : Reading) (text : List ℕ) : Type 0 where
+  pub stop : ℕ × Cause
+  pub is_stop : (log : Disk) → call.log.entry.tells ≡ Some log → call.log.now.tells ≢ None → IsStop (layout_of reading.format reading.shape) reading.ckpt reading.views stop log.reads
+  pub text_is : text ≡ dump_text (if why then Some stop else None) reading
+
+-- this was restored for the lsn from what reads of the archive's device gave at entry
+pub record IsRestoredText (call : LabCall) (to : ℕ) (text : List ℕ) : Type 0 where
+  pub n : ℕ
+  pub end : ℕ
+  pub pages : List Content
+  pub is_restored : WhereArchiveTold call (λ disk. IsRestored disk.reads to n end pages)
+  pub text_is : text ≡ restored_text n end pages
+
+-- A command that was done has this text to print.
+abbrev pub IsAnswer : LabCall → Command → List ℕ → Type 0
+IsAnswer call (Format page_size pages space log_blocks) text =
+    IsFormatAnswer call (asked_shape page_size pages space log_blocks) text
+IsAnswer call (Run drive) text = IsRunText call (Run drive) drive (IsReportWith (λ mark flushed. mark ≡ flushed) call drive) text
+IsAnswer call (Crash drive stop_log stop_data pick workers) text = CrashSafe call drive stop_log stop_data pick workers text
+IsAnswer call (Recover workers) text = IsReadOff call (λ reading text. text ≡ recover_text reading) text
+IsAnswer call (Dump why) text = IsReadOff call (IsListing call why) text
+IsAnswer call (Restore to) text = IsRestoredText call to text
+IsAnswer call (Gen seed users groups true max) text =
+    IsRunText call (Gen seed users groups true max) (drive_of_seed seed max) (IsSummaryText call) text
+IsAnswer call (Gen seed users groups false max) text = text ≡ generated_text seed users groups
+
+-- the sink took all of the text, or failed and took only a part
+abbrev pub IsPutOut : List ℕ → SinkSeen → SinkSeen → Type 0
+IsPutOut text sink sink_now =
+    (sink_now.taken ≡ with_taken sink.taken text)
+    ⊎ (HasRisen sink.faults sink_now.faults × TakesPart sink.taken text sink_now.taken)
+
+-- the text was to be printed: the sink took all of it, and the status is 0, or failed and took only a part
+abbrev pub IsTextPrinted : List ℕ → ℕ → SinkSeen → SinkSeen → Type 0
+IsTextPrinted text status sink sink_now =
+    ((status ≡ 0) × (sink_now.taken ≡ with_taken sink.taken text))
+    ⊎ ((status ≡ status_of Sink) × HasRisen sink.faults sink_now.faults × TakesPart sink.taken text sink_now.taken)
+
+-- the fault's line was to be printed after this text, and the status is the fault's whether or not the sink took it all
+abbrev pub IsFaultPrinted : List ℕ → Fault → ℕ → SinkSeen → SinkSeen → Type 0
+IsFaultPrinted text fault status sink sink_now = (status ≡ status_of fault) × IsPutOut (text ++ fault_line fault) sink sink_now
+
+-- which device ended a run: the log device where more failed, and the archive's where no other did
+abbrev pub EndsRun : LabCall → Fault → Type 0
+EndsRun call LogDevice = HasRisen call.log.entry.faults call.log.now.faults × (0 < call.log.fuse.mid)
+EndsRun call DataDevice =
+    HasRisen call.store.entry.faults call.store.now.faults × (0 < call.store.fuse.mid) × (call.log.fuse.mid ≡ 0)
+EndsRun call ArchiveDevice = HasRisen call.archive.entry.faults call.archive.now.faults × (mids call ≡ 0)
+EndsRun call _ = ⊥
+
+-- a device ended the run, which is reported before the fault's line
+abbrev pub IsReported : LabCall → Command → List ℕ → Fault → Type 0
+IsReported call (Run drive) text fault =
+    IsRunText call (Run drive) drive (IsReportWith (λ mark flushed. mark ≤ flushed) call drive) text × EndsRun call fault × BothDevices IsUnfailedAside call
+IsReported call command text fault = ⊥
+
+-- WHAT THE COMMAND COMES TO: its text, where no device failed that keeps the command from it; or a report of the run that a device ended; or a fault alone, with its cause
+abbrev pub IsOutcome : LabCall → Command → Outcome → Type 0
+IsOutcome call command (outcome.Text text) = AreUnfailedFor command call × IsAnswer call command text
+IsOutcome call command (outcome.Report text fault) = IsReported call command text fault
+IsOutcome call command (outcome.Fault fault) = IsCauseOf call command fault
+
+-- what is printed of it, and the status
+abbrev pub IsOutcomePrinted : Outcome → ℕ → SinkSeen → SinkSeen → Type 0
+IsOutcomePrinted (outcome.Text text) status sink sink_now = IsTextPrinted text status sink sink_now
+IsOutcomePrinted (outcome.Report text fault) status sink sink_now = IsFaultPrinted text fault status sink sink_now
+IsOutcomePrinted (outcome.Fault fault) status sink sink_now = IsFaultPrinted [] fault status sink sink_now
+
+-- the command was done, or this may keep it from that
+abbrev pub IsDoneOrKeptFrom : Command → Outcome → Type 0
+IsDoneOrKeptFrom command (outcome.Text text) = ⊤
+IsDoneOrKeptFrom command (outcome.Report text fault) = ⊥
+IsDoneOrKeptFrom command (outcome.Fault fault) = MayKeepFrom command fault
+
+-- WHAT THE OUTCOME SAYS of its call. Whatever it is, what is left of the store is accepted where the command runs a script, and a
+-- device that tells in the end told at entry. A command that can be done is done where nothing failed, or want of
+-- memory or spent turns kept it from that.
+pub record EndsWith (call : LabCall) (command : Command) (outcome : Outcome) : Type 0 where
+  pub means : IsOutcome call command outcome
+  pub unread : reads_script command ≡ false → call.source_now ≡ call.source
+  pub unwritten : leaves_devices command ≡ true → BothDevices IsUnwritten call
+  pub left : runs_script command ≡ true → LeavesStore call
+  pub tells : BothDevices (λ device. device.now.tells ≢ None → device.entry.tells ≢ None) call
+  pub complete : IsPossible call command → (HasRisen call.source.faults call.source_now.faults → ⊥) → AreUnfailedFor command call
+      → IsDoneOrKeptFrom command outcome
+
+-- the archive's device was only read, and no other was called
+abbrev pub OnlyReadsArchive : LabCall → Type 0
+OnlyReadsArchive call =
+    StillTells call.archive.entry.tells call.archive.now.tells × BothDevices (λ device. device.now ≡ device.entry) call
+
+-- the archive's device is as it was, where a run is ended before its archive is begun
+abbrev pub SparesArchive : Unfused → Outcome → Type 0
+SparesArchive archive (outcome.Fault Memory) = ⊤
+SparesArchive archive (outcome.Fault ArchiveDevice) = ⊤
+SparesArchive archive (outcome.Fault (Turns turns user)) = ⊤
+SparesArchive archive (outcome.Fault fault) = archive.now ≡ archive.entry
+SparesArchive archive done = ⊤
+
+-- this is so where the command comes to its text
+abbrev pub WhereDone : Outcome → Type 0 → Type 0
+WhereDone (outcome.Text text) P = P
+WhereDone cut P = ⊤
+
+-- The words ask for this command, which comes to an outcome that is printed. Where it comes to its text no call of the
+-- archive's device answered an error.
+pub record EndsCommand (call : LabCall) (archive_well : Type 0) (sink sink_now : SinkSeen) (status : ℕ)
+    (command : Command) : Type 0 where
+  pub asked : command_of call.words ≡ Some command
+  pub outcome : Outcome
+  pub ends : EndsWith call command outcome
+  pub restores : (to : ℕ) → command ≡ Restore to → OnlyReadsArchive call
+  pub spares : (drive : Drive) → command ≡ Run drive → SparesArchive call.archive outcome
+  pub well : WhereDone outcome archive_well
+  pub printed : IsOutcomePrinted outcome status sink sink_now
+
+-- the words are no command, or there was no memory to read them, and nothing was done
+pub record HasNoCommand (call : LabCall) (sink sink_now : SinkSeen) (status : ℕ) : Type 0 where
+  pub fault : Fault
+  pub fault_is : ((command_of call.words ≡ None) × (fault ≡ Words)) ⊎ (fault ≡ Memory)
+  pub printed : IsFaultPrinted [] fault status sink sink_now
+  pub unread : call.source_now ≡ call.source
+  pub unwritten : BothDevices IsUnwritten call
+  pub untouched : call.archive.now ≡ call.archive.entry
+  pub left : (command : Command) → command_of call.words ≡ Some command → runs_script command ≡ true → LeavesStore call
+
+-- The call had this sink, which is this now, and ended with this status. `archive_well` says that no call of the
+-- archive's device answered an error.
+pub record IsCallOf (call : LabCall) (archive_well : Type 0) (sink sink_now : SinkSeen) (status : ℕ) : Type 0 where
+  pub way : HasNoCommand call sink sink_now status
+      ⊎ ((command : Command) × EndsCommand call archive_well sink sink_now status command)
+  pub reads_little : TakesAtMost (MAX_SCRIPT + PIECE) call.source.left call.source_now.left

@@ -3,17 +3,16 @@
 -- those of applying the first n groups whole to the opened pages, n reaching every group printed flushed; a group is
 -- lost only where a device call failed.
 use Rattle.std.specs.Prelude.{ℕ, ◌≡◌, ◌≢◌, ◌≤◌, ◌<◌, ◌⊎◌, ◌+◌, List, Bool, Option, Some, None, IfSome, IsTrue}
+use Rattle.std.specs.Option.{option_map}
 use Rattle.model_base.specs.{HasRisen}
-use Rattle.model_device.specs.{Crashes}
-use Rattle.model_device.specs.Disk.{Disk}
+use Rattle.model_device.specs.{Crashes, Disk}
 use Rattle.model_report.specs.{report_text}
 use Rattle.model_report.specs.declared.entry.Followed.{Followed}
 use Rattle.model_script.specs.declared.asked.Command.TheVariants.{Crash}
 use Rattle.model_script.specs.declared.asked.Drive.{Drive}
 use Rattle.model_script.specs.declared.script.ScriptLine.{ScriptLine}
-use Rattle.model_store.specs.{HasOldCopies, IsReading, IsUnused}
-use Rattle.model_store.specs.Reading.{Reading}
-use Rattle.model_theorem.specs.{AreFormatted, entries_of, IsPrefixRead, IsRun, LosesOnlyByFailure, marks_of, misfit_on, Opened, Ran, run_start}
+use Rattle.model_store.specs.{HasOldCopies, IsReading, IsUnused, Reading}
+use Rattle.model_theorem.specs.{AreFormatted, entries_of, IsPrefixRead, IsRun, LosesOnlyByFailure, misfit_on, Opened, Ran}
 use Rattle.redo_disk.specs.{WhereTold}
 use Rattle.redo_memdisk.specs.{has_passed_all}
 use Rattle.redo_memdisk.specs.declared.fuse.Stage.TheVariants.{Stopping}
@@ -73,7 +72,7 @@ pub record CrashSafe (call : LabCall) (drive : Drive) (stop_log stop_data : Opti
       call.log.now.crashed_from call.store.now.crashed_from
   pub any_stops : AreCrashedAs stop_log stop_data pick call
   pub armed_first : AreArmedFirst call
-  pub prints : text ≡ report_text (run_start run) (entries_of run) left (marks_of run) follows (Some (reading.end, reading.pages))
+  pub prints : text ≡ report_text (option_map (λ run. run.start) run) (entries_of run) left (option_map (λ run. run.marks) run) follows (Some (reading.end, reading.pages))
   pub read_from_devices : WhereToldNow call (λ log store. IsReading log.reads store.reads reading)
   pub first_groups_whole : (store : Opened) → WhereOpened call store (IsLeftFair call store
       → ReadsRun call drive.log_only store script run reading)

@@ -1,7 +1,7 @@
 -- The two devices of a call behind their fuses: while a run prepares them, from the arming of the fuses to the crash, and after it.
 use Rattle.std.specs.Prelude.{ℕ, ◌≡◌, ◌≢◌, ◌≤◌, ◌<◌, ◌⊎◌, Option, Some, None, IfSome, IsTrue, List, length}
 use Rattle.model_base.specs.{HasRisen, default_shape}
-use Rattle.model_device.specs.Disk.{Disk}
+use Rattle.model_device.specs.{Disk}
 use Rattle.model_log.specs.declared.layout.TheConstants.{HEADER_BYTES}
 use Rattle.model_parts.specs.{IsFormatted}
 use Rattle.model_store.specs.{IsUnused}

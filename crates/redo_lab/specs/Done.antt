@@ -4,14 +4,11 @@ use Rattle.model_base.specs.declared.limits.TheConstants.{MAX_SCRIPT}
 use Rattle.model_script.specs.declared.asked.Command.{Command}
 use Rattle.model_script.specs.declared.asked.Command.TheVariants.{Restore, Run}
 use Rattle.model_script.specs.declared.asked.Drive.{Drive}
-use Rattle.redo_disk.specs.{Call}
-use Rattle.redo_disk.specs.Seen.{Seen}
+use Rattle.redo_disk.specs.{Call, Seen}
 use Rattle.redo_io.specs.{SourceSeen, TakesAtMost}
 use Rattle.redo_io.specs.declared.read.TheConstants.{PIECE}
-use Rattle.redo_lab.specs.Asked.{calls_archive}
-use Rattle.redo_lab.specs.Call.{IsWellCalled, LabCall, unfused}
-use Rattle.redo_lab.specs.Ending.{EndsWith, OnlyReadsArchive, SparesArchive, WhereDone}
-use Rattle.redo_lab.specs.Handed.{AreOf, Handed, call_on, handed_of}
+use Rattle.redo_lab.specs.Call.{calls_archive, IsWellCalled, LabCall, unfused, AreOf, Handed, call_on, handed_of}
+use Rattle.redo_lab.specs.Cause.{EndsWith, OnlyReadsArchive, SparesArchive, WhereDone}
 use Rattle.redo_lab.specs.declared.outcome.Done.{Done}
 
 module _ {L D : Type 0} (log_seen : L → Seen) (log_gives : L → Call → L → Type 0) (data_seen : D → Seen)

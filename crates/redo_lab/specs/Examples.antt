@@ -1,10 +1,8 @@
 -- Calls that the promise of stops and of arming is tried on: what it refuses, and what it admits.
 use Rattle.std.specs.Prelude.{ℕ, ◌≡◌, ◌≢◌, ◌<◌, List, [], length, Option, Some, None}
-use Rattle.model_device.specs.{settled}
-use Rattle.model_device.specs.Disk.{Disk}
+use Rattle.model_device.specs.{settled, Disk}
 use Rattle.model_device.specs.declared.write.Write.{Write}
-use Rattle.model_store.specs.{IsReading, IsUnused}
-use Rattle.model_store.specs.Reading.{Reading}
+use Rattle.model_store.specs.{IsReading, IsUnused, Reading}
 use Rattle.redo_memdisk.specs.{fresh}
 use Rattle.redo_memdisk.specs.declared.fuse.Stage.TheVariants.{Crashed}
 use Rattle.redo_lab.specs.Call.{Guarded, LabCall}

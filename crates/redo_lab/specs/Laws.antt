@@ -2,12 +2,11 @@
 use Rattle.std.specs.Prelude.{ℕ, ◌≡◌, List, Option, Some, None}
 use Rattle.model_base.specs.{IsWithinLimits}
 use Rattle.model_base.specs.declared.shape.Shape.{Shape}
-use Rattle.model_device.specs.Disk.{Disk}
+use Rattle.model_device.specs.{Disk}
 use Rattle.model_parts.specs.{formatted_store, IsFormatted, IsOpenable, KeepsOpened}
 use Rattle.model_script.specs.{ArchiveFits, first_misfit, ScriptFits}
 use Rattle.model_script.specs.declared.script.ScriptLine.{ScriptLine}
-use Rattle.model_store.specs.{IsFair, IsFairLog, IsReading, Refuses}
-use Rattle.model_store.specs.Reading.{Reading}
+use Rattle.model_store.specs.{IsFair, IsFairLog, IsReading, Refuses, Reading}
 use Rattle.model_store.specs.declared.refusal.Refusal.{Refusal}
 use Rattle.model_theorem.specs.{HeldOlder, IsHeld, IsOpenedBefore, ReadsPrefix}
 use Rattle.model_theorem.specs.Closed.{Held}

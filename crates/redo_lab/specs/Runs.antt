@@ -1,9 +1,9 @@
 -- A command that runs a script: how far its run came, and what that leaves of the two devices.
-use Rattle.std.specs.Prelude.{ℕ, ◌≡◌, ◌≢◌, ◌≤◌, ◌<◌, ◌+◌, false, List, [], Option, Some, None, IfSome, Result, Ok, Err, length}
-use Rattle.std.specs.Prelude.{Vec, ⊤}
+use Rattle.std.specs.Prelude.{ℕ, ◌≡◌, ◌≢◌, ◌≤◌, ◌<◌, ◌+◌, false, List, [], Option, Some, None, IfSome, Result, Ok, Err, length, Vec, ⊤}
+use Rattle.std.specs.Option.{option_map}
 use Rattle.std.specs.Borrow.{Bor}
 use Rattle.std.specs.declared.alloc.Global.{Global}
-use Rattle.model_device.specs.Disk.{Disk}
+use Rattle.model_device.specs.{Disk}
 use Rattle.model_page.specs.declared.content.Content.{Content}
 use Rattle.model_parts.specs.{IsOpenable}
 use Rattle.model_report.specs.{IsLeft, report_text, summary_text}
@@ -15,11 +15,9 @@ use Rattle.model_script.specs.declared.asked.Command.{Command}
 use Rattle.model_script.specs.declared.asked.Command.TheVariants.{Crash, Run}
 use Rattle.model_script.specs.declared.asked.Drive.{Drive}
 use Rattle.model_script.specs.declared.script.ScriptLine.{ScriptLine}
-use Rattle.model_store.specs.{IsReading}
-use Rattle.model_store.specs.Reading.{Reading}
-use Rattle.model_theorem.specs.{entries_of, marks_of, Opened, Ran, room_of, run_start}
-use Rattle.redo_disk.specs.{Call}
-use Rattle.redo_disk.specs.Seen.{Seen}
+use Rattle.model_store.specs.{IsReading, Reading}
+use Rattle.model_theorem.specs.{entries_of, Opened, Ran, room_of}
+use Rattle.redo_disk.specs.{Call, Seen}
 use Rattle.redo_disk.specs.declared.error.DevError.{DevError}
 use Rattle.redo_disk.specs.declared.error.DevError.TheVariants as device
 use Rattle.redo_drive.specs.declared.drive.RunEnd.{RunEnd}
@@ -35,7 +33,7 @@ use Rattle.redo_recover.specs.declared.fault.RecFault.TheVariants.{LogDev, DataD
 use Rattle.redo_recover.specs.{refusal_of}
 use Rattle.model_script.specs.{ArchiveFits, ScriptFits}
 use Rattle.model_log.specs.{start_after}
-use Rattle.redo_lab.specs.Cause.{archive_size}
+use Rattle.redo_lab.specs.Cause.{archive_size, EndsWith, SparesArchive}
 use Rattle.redo_lab.specs.declared.crash_command.Crashing.{Crashing}
 use Rattle.redo_lab.specs.declared.outcome.Outcome.{Outcome}
 use Rattle.redo_lab.specs.declared.outcome.Outcome.TheVariants as outcome
@@ -44,15 +42,9 @@ use Rattle.redo_lab.specs.declared.playing.Course.TheVariants as course
 use Rattle.redo_lab.specs.declared.playing.Played.{Played}
 use Rattle.redo_lab.specs.declared.playing.Ran as declared
 use Rattle.redo_lab.specs.declared.playing.Stops.{Stops}
-use Rattle.redo_lab.specs.Archived.{IsArchived}
-use Rattle.redo_lab.specs.Asked.{IsScriptFor, drive_of, reads_script}
-use Rattle.redo_lab.specs.Call.{BothDevices, IsWellCalled, LabCall, Unfused, WhereOpened, WhereToldAtEntry}
-use Rattle.redo_lab.specs.Call.{WhereToldNow, mids, unfused}
+use Rattle.redo_lab.specs.Told.{IsArchived, DevicesOpenAs, AreToldOf, AreLeftRead, AreMarksRead, HasArchiveFailed, HasRunScript, IsOpenedFirst, LosesOnlyBy}
+use Rattle.redo_lab.specs.Call.{IsScriptFor, drive_of, reads_script, BothDevices, IsWellCalled, LabCall, Unfused, WhereOpened, WhereToldAtEntry, WhereToldNow, mids, unfused, AreOf, IsOpenedAt}
 use Rattle.redo_lab.specs.Devices.{AreArmed, ArePrepared, IsUnarmed, to_be_armed}
-use Rattle.redo_lab.specs.Handed.{AreOf, IsOpenedAt}
-use Rattle.redo_lab.specs.Ending.{EndsWith, SparesArchive}
-use Rattle.redo_lab.specs.Store.{DevicesOpenAs}
-use Rattle.redo_lab.specs.Told.{AreToldOf, AreLeftRead, AreMarksRead, HasArchiveFailed, HasRunScript, IsOpenedFirst, LosesOnlyBy}
 
 -- the fault of a call whose store isn't formatted, read or opened
 abbrev pub fault_of : RecFault → Fault
@@ -240,7 +232,7 @@ summary_of run reading = summary_text (length run.entries) run.marks.flushed run
 pub record IsReportOf (script : List ScriptLine) (run : Option Ran) (follows : List Followed) (read : Option (ℕ × List Content)) (text : List ℕ) : Type 0 where
   pub left : List (ℕ × ℕ)
   pub left_is : IsLeft script (entries_of run) left
-  pub text_is : text ≡ report_text (run_start run) (entries_of run) left (marks_of run) follows read
+  pub text_is : text ≡ report_text (option_map (λ run. run.start) run) (entries_of run) left (option_map (λ run. run.marks) run) follows read
 
 -- what is to be printed of a run that was ended by this, if by anything: its report, if there was memory for it
 abbrev pub IsRunPrinted : List ScriptLine → Ran → List Followed → Option Fault → Outcome → Type 0

@@ -2,7 +2,7 @@
 ghost use Rattle.std.specs.Prelude.{◌≡◌, ◌⊎◌, Some, None, IfOk, IfErr, map};
 ghost use Rattle.std.specs.String.{string_bytes};
 ghost use Rattle.model_report.specs.declared.fault.Fault.TheVariants.{Memory, Words};
-ghost use Rattle.redo_lab.specs.Asked.{command_of};
+ghost use Rattle.redo_lab.specs.Call.{command_of};
 
 use model_report::Fault;
 use model_script::Command;

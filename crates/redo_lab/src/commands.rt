@@ -2,11 +2,9 @@
 ghost use Rattle.std.specs.Prelude.{◌≡◌, ◌≤◌, IfSome, None};
 ghost use Rattle.model_script.specs.declared.asked.Drive.{Drive as Asked};
 ghost use Rattle.model_script.specs.declared.words.TheConstants.{MAX_WORKERS};
-ghost use Rattle.redo_lab.specs.Asked.{IsScriptRead};
+ghost use Rattle.redo_lab.specs.Call.{IsScriptRead, Unfused, AreOf, call_on, Handed};
 ghost use Rattle.redo_lab.specs.Allowed.{HasAllowedNumbers};
-ghost use Rattle.redo_lab.specs.Call.{Unfused};
-ghost use Rattle.redo_lab.specs.Handed.{AreOf, call_on, Handed};
-ghost use Rattle.redo_lab.specs.Ending.{EndsWith, SparesArchive, WhereDone};
+ghost use Rattle.redo_lab.specs.Cause.{EndsWith, SparesArchive, WhereDone};
 ghost use Rattle.redo_lab.specs.Runs.{IsRanBy, IsUncut, SparedBy, command_with, stops_of};
 ghost use Rattle.redo_lab.specs.Done.{IsDoneBy};
 

@@ -5,9 +5,8 @@ ghost use Rattle.model_script.specs.declared.asked.Drive.{Drive as Asked};
 ghost use Rattle.model_script.specs.declared.words.TheConstants.{MAX_WORKERS};
 ghost use Rattle.redo_drive.specs.declared.drive.RunEnd.TheVariants as ended;
 ghost use Rattle.redo_memdisk.specs.{entry_of};
-ghost use Rattle.redo_lab.specs.Asked.{IsScriptRead};
-ghost use Rattle.redo_lab.specs.Handed.{AreOf, call_on, Handed};
-ghost use Rattle.redo_lab.specs.Ending.{EndsWith};
+ghost use Rattle.redo_lab.specs.Call.{IsScriptRead, AreOf, call_on, Handed};
+ghost use Rattle.redo_lab.specs.Cause.{EndsWith};
 ghost use Rattle.redo_lab.specs.Runs.{IsLeftBy, IsRanBy, IsReportOf, IsToldRightly, command_with, played_follows, played_run};
 
 use crate::faults::fault_of;

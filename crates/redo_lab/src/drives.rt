@@ -1,15 +1,11 @@
 // The drive of a run: in threads, or by turns, and then beside a writer and a flusher, or of users that write for themselves.
 ghost use Rattle.std.specs.Prelude.{◌≡◌, IfErr, IfOk, IfSome, None, is_some, length, true};
-ghost use Rattle.redo_drive.specs.{Owes};
-ghost use Rattle.redo_drive.specs.Archived.{HaveArchived};
+ghost use Rattle.redo_drive.specs.{Owes, HaveArchived, AreNewFollowers, IsNewArchive, MayBegin, views_of};
 ghost use Rattle.redo_drive.specs.Drive.{ReadsToMarks};
 ghost use Rattle.redo_drive.specs.Followed.{HaveFollowed};
-ghost use Rattle.redo_drive.specs.Startable.{AreNewFollowers, IsNewArchive, MayBegin};
-ghost use Rattle.redo_drive.specs.Views.{views_of};
-ghost use Rattle.redo_follow.specs.Tallying.{HasTally};
+ghost use Rattle.redo_follow.specs.{HasTally};
 ghost use Rattle.redo_memdisk.specs.{CallsThrough, seen_through};
-ghost use Rattle.redo_lab.specs.Asked.{turns_of};
-ghost use Rattle.redo_lab.specs.Handed.{TellsOf};
+ghost use Rattle.redo_lab.specs.Call.{turns_of, TellsOf};
 
 use crate::closing::AfterDrive;
 use model_script::{Drive, Script};

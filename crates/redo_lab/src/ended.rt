@@ -1,6 +1,6 @@
 // What a call gives back.
 ghost use Rattle.std.specs.Prelude.{◌≡◌};
-ghost use Rattle.redo_lab.specs.Ending.{IsOutcomePrinted};
+ghost use Rattle.redo_lab.specs.Cause.{IsOutcomePrinted};
 
 use crate::outcome::Done;
 use crate::printing::print_outcome;

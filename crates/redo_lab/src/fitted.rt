@@ -6,14 +6,13 @@ ghost use Rattle.model_log.specs.declared.layout.TheConstants.{BLOCK_HEADER};
 ghost use Rattle.model_script.specs.{ArchiveFits, IsScriptLine};
 ghost use Rattle.model_script.specs.declared.asked.Command.{Command};
 ghost use Rattle.model_script.specs.declared.asked.Drive.{Drive as Asked};
-ghost use Rattle.redo_drive.specs.{room_from};
-ghost use Rattle.redo_drive.specs.Startable.{MayBegin};
+ghost use Rattle.redo_drive.specs.{room_from, MayBegin};
 ghost use Rattle.redo_memdisk.specs.{entry_of};
 ghost use Rattle.redo_lab.specs.declared.playing.Course.TheVariants as ended;
 ghost use Rattle.redo_lab.specs.declared.playing.Stops.{Stops};
 ghost use Rattle.redo_lab.specs.Devices.{AreArmed, AreAsArmed};
 ghost use Rattle.redo_lab.specs.Cause.{archive_size};
-ghost use Rattle.redo_lab.specs.Handed.{call_on, Handed};
+ghost use Rattle.redo_lab.specs.Call.{call_on, Handed};
 ghost use Rattle.redo_lab.specs.Runs.{AreEntered, AreReady, CommandRuns, unopened};
 
 use crate::faults::fault_of;

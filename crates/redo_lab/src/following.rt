@@ -2,10 +2,9 @@
 ghost use Rattle.std.specs.Prelude.{◌<◌, ◌^◌, ◌≡◌, ◌≤◌, ℕ, IfOk, [], length, vec_capacity};
 ghost use Rattle.std.specs.List.{AllZip};
 ghost use Rattle.model_script.specs.declared.words.TheConstants.{MAX_FOLLOWERS};
-ghost use Rattle.redo_drive.specs.Views.{followers_in};
-ghost use Rattle.redo_drive.specs.Startable.{AreNewFollowers};
-ghost use Rattle.redo_lab.specs.Following.{IsToldOf};
-ghost use Rattle.redo_lab.specs.Untold.{AreUntold};
+ghost use Rattle.redo_drive.specs.{followers_in, AreNewFollowers};
+ghost use Rattle.redo_lab.specs.Call.{IsToldOf};
+ghost use Rattle.redo_lab.specs.Begun.{AreUntold};
 
 use model_report::Followed;
 use redo_drive::{Actor, FIRST_FOLLOWER};

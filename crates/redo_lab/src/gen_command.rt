@@ -8,10 +8,9 @@ ghost use Rattle.model_script.specs.declared.misfit.TheConstants.{MAX_USERS};
 ghost use Rattle.model_script.specs.declared.script.ScriptLine.{ScriptLine};
 ghost use Rattle.redo_memdisk.specs.{entry_of};
 ghost use Rattle.redo_recover.specs.{reading_of};
-ghost use Rattle.redo_lab.specs.Asked.{drive_of_seed};
+ghost use Rattle.redo_lab.specs.Call.{drive_of_seed, AreOf, call_on, Handed};
 ghost use Rattle.redo_lab.specs.declared.playing.Course.TheVariants as course;
-ghost use Rattle.redo_lab.specs.Handed.{AreOf, call_on, Handed};
-ghost use Rattle.redo_lab.specs.Ending.{EndsWith};
+ghost use Rattle.redo_lab.specs.Cause.{EndsWith};
 ghost use Rattle.redo_lab.specs.Runs.{ComesTo, CommandRuns, ran_of, stops_of, summary_of};
 ghost use Rattle.redo_lab.specs.Done.{IsUnreadEnd};
 

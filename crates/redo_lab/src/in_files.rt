@@ -2,11 +2,9 @@
 ghost use Rattle.std.specs.Prelude.{◌≡◌, false, map};
 ghost use Rattle.std.specs.String.{string_bytes};
 ghost use Rattle.redo_memdisk.specs.File.{FileGives, file_seen};
-ghost use Rattle.redo_lab.specs.Asked.{calls_archive, command_of};
-ghost use Rattle.redo_lab.specs.Call.{IsWellCalled, unfused};
-ghost use Rattle.redo_lab.specs.Ending.{IsCallOf};
+ghost use Rattle.redo_lab.specs.Call.{calls_archive, command_of, IsWellCalled, unfused, AreOf, call_on, handed_of};
+ghost use Rattle.redo_lab.specs.Cause.{IsCallOf};
 ghost use Rattle.redo_lab.specs.Files.{IsAtRestWith, IsUncalled};
-ghost use Rattle.redo_lab.specs.Handed.{AreOf, call_on, handed_of};
 
 use crate::ended::Ended;
 use crate::lab_call::lab;

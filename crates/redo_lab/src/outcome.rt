@@ -2,7 +2,7 @@
 ghost use Rattle.std.specs.Prelude.{◌≡◌};
 ghost use Rattle.redo_memdisk.specs.{fresh, fuse_of, inner_of};
 ghost use Rattle.redo_lab.specs.declared.outcome.Outcome.TheVariants as ended;
-ghost use Rattle.redo_lab.specs.Handed.{AreOf};
+ghost use Rattle.redo_lab.specs.Call.{AreOf};
 
 use model_report::Fault;
 use redo_io::Text;

@@ -5,7 +5,7 @@ ghost use Rattle.model_script.specs.{IsScriptLine};
 ghost use Rattle.model_script.specs.declared.asked.Command.{Command};
 ghost use Rattle.model_script.specs.declared.asked.Command.TheVariants.{Run};
 ghost use Rattle.model_script.specs.declared.words.TheConstants.{MAX_FOLLOWERS};
-ghost use Rattle.redo_lab.specs.Handed.{AreOf, call_on, Handed};
+ghost use Rattle.redo_lab.specs.Call.{AreOf, call_on, Handed};
 ghost use Rattle.redo_lab.specs.Runs.{AreWellCalled, CommandRuns, IsGivenBack, IsRanBy, SparedBy};
 ghost use Rattle.redo_lab.specs.Archiving.{IsUnfused};
 

@@ -5,7 +5,7 @@ ghost use Rattle.model_log.specs.declared.layout.TheConstants.{HEADER_BYTES};
 ghost use Rattle.model_store.specs.{IsUnused};
 ghost use Rattle.redo_disk.specs.{MakesCalls, error_of};
 ghost use Rattle.redo_lab.specs.Devices.{IsFirstRead};
-ghost use Rattle.redo_lab.specs.Handed.{AreOf, call_on, Handed};
+ghost use Rattle.redo_lab.specs.Call.{AreOf, call_on, Handed};
 ghost use Rattle.redo_lab.specs.Runs.{Prepares};
 ghost use Rattle.redo_memdisk.specs.{entry_of, fresh, fuse_of, inner_of};
 

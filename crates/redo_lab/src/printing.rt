@@ -1,6 +1,6 @@
 // Printing what a call leaves to be printed.
 ghost use Rattle.std.specs.Prelude.{◌≡◌, ◌≤◌, []};
-ghost use Rattle.redo_lab.specs.Ending.{IsFaultPrinted, IsOutcomePrinted, IsTextPrinted};
+ghost use Rattle.redo_lab.specs.Cause.{IsFaultPrinted, IsOutcomePrinted, IsTextPrinted};
 
 use crate::outcome::Outcome;
 use model_report::Fault;

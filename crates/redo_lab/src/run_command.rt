@@ -2,10 +2,8 @@
 ghost use Rattle.std.specs.Prelude.{None};
 ghost use Rattle.model_script.specs.declared.asked.Command.TheVariants.{Run};
 ghost use Rattle.model_script.specs.declared.asked.Drive.{Drive as Asked};
-ghost use Rattle.redo_lab.specs.Asked.{IsScriptRead};
-ghost use Rattle.redo_lab.specs.Call.{Unfused};
-ghost use Rattle.redo_lab.specs.Handed.{AreOf, call_on, Handed};
-ghost use Rattle.redo_lab.specs.Ending.{EndsWith, SparesArchive, WhereDone};
+ghost use Rattle.redo_lab.specs.Call.{IsScriptRead, Unfused, AreOf, call_on, Handed};
+ghost use Rattle.redo_lab.specs.Cause.{EndsWith, SparesArchive, WhereDone};
 ghost use Rattle.redo_lab.specs.Runs.{IsRanBy, IsRunPrinted, IsUncut, SparedBy, ran_of, stops_of};
 
 use crate::laws::laws;

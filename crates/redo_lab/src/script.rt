@@ -3,7 +3,7 @@ ghost use Rattle.std.specs.Prelude.{◌≡◌, ◌≤◌, ◌+◌, ℕ, List, If
 ghost use Rattle.model_base.specs.declared.limits.TheConstants.{MAX_SCRIPT};
 ghost use Rattle.redo_io.specs.{TakesAtMost};
 ghost use Rattle.redo_io.specs.declared.read.TheConstants.{PIECE};
-ghost use Rattle.redo_lab.specs.Asked.{IsScriptRead};
+ghost use Rattle.redo_lab.specs.Call.{IsScriptRead};
 ghost use Rattle.redo_lab.specs.Allowed.{IsScriptFault};
 
 use model_base::MAX_SCRIPT;

@@ -1,6 +1,6 @@
 // The sizes of a store that is formatted.
 ghost use Rattle.std.specs.Prelude.{◌≡◌};
-ghost use Rattle.redo_lab.specs.Answer.{asked_shape};
+ghost use Rattle.redo_lab.specs.Call.{asked_shape};
 
 use model_base::Shape;
 

@@ -3,7 +3,7 @@ ghost use Rattle.std.specs.Prelude.{◌≤◌};
 ghost use Rattle.model_base.specs.{IsWithinLimits};
 ghost use Rattle.model_script.specs.declared.asked.Command.TheVariants.{Format, Recover, Dump};
 ghost use Rattle.model_script.specs.declared.words.TheConstants.{MAX_WORKERS};
-ghost use Rattle.redo_lab.specs.Answer.{asked_shape};
+ghost use Rattle.redo_lab.specs.Call.{asked_shape};
 ghost use Rattle.redo_lab.specs.Done.{IsUnreadEnd};
 
 use crate::faults::fault_of;

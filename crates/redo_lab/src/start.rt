@@ -7,7 +7,7 @@ ghost use Rattle.model_script.specs.declared.asked.Command.TheVariants.{Run};
 ghost use Rattle.model_script.specs.declared.words.TheConstants.{MAX_FOLLOWERS};
 ghost use Rattle.redo_lab.specs.declared.playing.Course.TheVariants as ended;
 ghost use Rattle.redo_lab.specs.Begun.{AreBegunOr, AreGivenOn, HasBegun};
-ghost use Rattle.redo_lab.specs.Handed.{call_on, Handed};
+ghost use Rattle.redo_lab.specs.Call.{call_on, Handed};
 ghost use Rattle.redo_lab.specs.Runs.{AreWellCalled, CommandRuns, IsGivenBack, SparedBy};
 
 use crate::archiving::{begin_on, room_on};

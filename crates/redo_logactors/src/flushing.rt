@@ -1,8 +1,7 @@
 // What the flusher asks for, and what it makes of the answer.
 ghost use Rattle.std.specs.Prelude.{◌≡◌, ◌<◌, ◌^◌, ◌==◌, if◌then◌else◌, true};
-ghost use Rattle.model_core.specs.Actors as actor;
-ghost use Rattle.model_core.specs.AnswerFits.{AnswerFits};
-ghost use Rattle.model_core.specs.{after_of, checked_of, flusher_ending, flusher_program, lent, next, step_of};
+ghost use Rattle.model_core.specs.States as actor;
+ghost use Rattle.model_core.specs.{AnswerFits, after_of, checked_of, flusher_ending, flusher_program, lent, next, step_of};
 ghost use Rattle.redo_words.specs.{Lends};
 
 use crate::flusher::Flusher;

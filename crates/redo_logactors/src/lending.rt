@@ -1,6 +1,6 @@
 // What a user on an errand does with the writer and the flusher, beside giving them the answers to their Ops.
 ghost use Rattle.std.specs.Prelude.{◌≡◌, false};
-ghost use Rattle.model_own.specs.OwnWrites.{rested_writer};
+ghost use Rattle.model_own.specs.{rested_writer};
 
 use crate::flusher::Flusher;
 use crate::writer::Writer;

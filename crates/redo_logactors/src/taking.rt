@@ -1,10 +1,9 @@
 // What the writer makes of the answers to its own Ops.
 ghost use Rattle.std.specs.Prelude.{◌≡◌, ◌<◌, ◌≤◌, ◌+◌, ◌-◌, ◌^◌, ◌++◌, if◌then◌else◌, false, length};
-ghost use Rattle.model_core.specs.Actors as actor;
-ghost use Rattle.model_core.specs.AnswerFits.{AnswerFits};
+ghost use Rattle.model_core.specs.States as actor;
+ghost use Rattle.model_core.specs.{AnswerFits, after_of, answer_limit, finds_no_more, full_blocks, has_log_space, has_whole_word, lanes, left_in_word, lsn, old_of, read_place, stands_outside, step_of, tail_after, writer_program, writer_took};
 ghost use Rattle.redo_link.specs.{FindsLsn};
 ghost use Rattle.redo_logactors.specs.WriterView.{after_word};
-ghost use Rattle.model_core.specs.{after_of, answer_limit, finds_no_more, full_blocks, has_log_space, has_whole_word, lanes, left_in_word, lsn, old_of, read_place, stands_outside, step_of, tail_after, writer_program, writer_took};
 
 use crate::writer::{KEPT_BLOCKS, KEPT_BYTES, Writer};
 use crate::writing::{drop_bytes, drop_firsts};

@@ -1,6 +1,6 @@
 // What the writer asks for, and what it makes of the answer.
 ghost use Rattle.std.specs.Prelude.{◌≡◌, ◌<◌, ◌≤◌, ◌+◌, ◌/◌, ◌%◌, ◌^◌, ◌==◌, if◌then◌else◌, true, length, drop, vec_capacity};
-ghost use Rattle.model_core.specs.Actors as actor;
+ghost use Rattle.model_core.specs.States as actor;
 ghost use Rattle.model_core.specs.{cell_of, checked_of, lane_of, left_in_word, lent, lsn, next, read_place, writer_ending, writer_program};
 ghost use Rattle.redo_logactors.specs.WriterView.{WriterLeadsToLsn};
 ghost use Rattle.redo_words.specs.{Lends};
@@ -37,7 +37,7 @@ pub(crate) fn drop_firsts(firsts: &mut Vec<u32>, count: usize)
 
 impl Writer {
     /// The lsn of its read place.
-    #[tactic(auto, unfolding(model_core::specs::Lsn::lsn))]
+    #[tactic(auto, unfolding(model_core::specs::Lanes::lsn))]
     pub(crate) fn read_place(&self) -> u64
         ensures { result ≡ lsn (read_place self.now) }
     {

@@ -21,7 +21,7 @@ use Rattle.model_parts.proofs.Puts.{WritesFull, WritesTail}
 use Rattle.model_parts.proofs.Tails.{ckpt-of_block}
 use Rattle.redo_block.specs.{AreFirsts}
 use Rattle.redo_disk.specs.{write_at}
-use Rattle.redo_logdev.specs.Calls.{back_of, front_of}
+use Rattle.redo_logdev.specs.Part.{back_of, front_of}
 
 some-of : (stream : List ℕ) → stream ≢ [] → 1 ≤ length stream
 some-of [] some = absurd (some refl)

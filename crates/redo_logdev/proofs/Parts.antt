@@ -3,8 +3,7 @@ use Rattle.std.proofs.Common.{◌≡◌, ◌≤◌, ◌<◌, ◌+◌, ◌-◌, �
 use Rattle.std.proofs.lemmas.Bool.{cases_lt}
 use Rattle.model_base.specs.declared.shape.Shape.{Shape}
 use Rattle.model_base.specs.declared.limits.TheConstants.{FIRST_DATA_LSN, MAX_LOG_BLOCKS, MIN_LOG_BLOCKS}
-use Rattle.model_device.specs.{IsPutOrNot, synced, written}
-use Rattle.model_device.specs.Disk.{Disk}
+use Rattle.model_device.specs.{IsPutOrNot, synced, written, Disk}
 use Rattle.model_log.specs.declared.group.Whole.{Whole}
 use Rattle.model_log.specs.declared.head.Format.TheVariants.{Two}
 use Rattle.model_log.specs.declared.layout.Layout.{Layout}
@@ -21,9 +20,8 @@ use Rattle.model_parts.proofs.LogFresh.{fresh-live}
 use Rattle.model_parts.proofs.Torn.{put-torn}
 use Rattle.redo_disk.specs.{Call, MakesCalls, Serve, write_at}
 use Rattle.redo_disk.specs.declared.error.DevError.{DevError}
-use Rattle.redo_logdev.specs.Calls.{block_writes, framed_full_blocks, full_count, last_block}
+use Rattle.redo_logdev.specs.Part.{block_writes, framed_full_blocks, full_count, last_block, Part}
 use Rattle.redo_logdev.specs.Writing.{FailsBlocks, written_blocks}
-use Rattle.redo_logdev.specs.Part.{Part}
 use Rattle.redo_logdev.specs.Holding.{DiskHolds}
 use Rattle.redo_logdev.specs.PartConditions.{IsSoundLogPart, MayWrite}
 use Rattle.redo_logdev.proofs.Cuts.{count-firsts, IsCut}

@@ -1,18 +1,14 @@
 -- Where a part reads a block of the run, and that it is that block.
 use Rattle.std.proofs.Common.{◌≡◌, ◌≤◌, ◌<◌, ◌+◌, ◌*◌, ◌∙◌, ℕ, List, take, drop, refl, sym, subst, ⊎_elim, arith}
 use Rattle.std.proofs.lemmas.Bool.{cases_lt, le-leb, lt-leb}
-use Rattle.model_device.specs.{sector}
-use Rattle.model_device.specs.Disk.{Disk}
+use Rattle.model_device.specs.{sector, Disk}
 use Rattle.model_log.specs.declared.group.Whole.{Whole}
 use Rattle.model_log.specs.{block_of, IsBoundaryBlock, IsInRound, place_in, run_layout, sector_of}
 use Rattle.model_log.proofs.Places.{sector-place}
 use Rattle.model_parts.specs.{IsWritten}
-use Rattle.redo_logdev.specs.Part.{Part}
-use Rattle.redo_logdev.specs.Holding.{DiskHolds}
-use Rattle.redo_logdev.specs.PartConditions.{IsSoundLogPart}
-use Rattle.redo_logdev.specs.ReadBlock.{block_place}
-use Rattle.redo_logdev.specs.Holding.{HoldsBlock}
-use Rattle.redo_logdev.specs.PartConditions.{MayRead}
+use Rattle.redo_logdev.specs.Part.{Part, block_place}
+use Rattle.redo_logdev.specs.Holding.{DiskHolds, HoldsBlock}
+use Rattle.redo_logdev.specs.PartConditions.{IsSoundLogPart, MayRead}
 
 module _ {L : Type 0} (part : Part L) (size room lsn : ℕ)
     (sound : IsSoundLogPart size part.shape part.marks part.tails room) (may : MayRead part lsn) where

@@ -5,7 +5,7 @@ use Rattle.model_log.specs.declared.layout.Layout.{Layout}
 use Rattle.redo_disk.specs.declared.error.DevError.{DevError}
 use Rattle.redo_disk.specs.{Answer, Call, error_of, MakesCall, MakesCalls, Serve, write_at, Writes}
 use Rattle.redo_disk.proofs.Made.{call_serves, serves_then}
-use Rattle.redo_logdev.specs.Calls.{back_of, front_of, round_writes, some_write}
+use Rattle.redo_logdev.specs.Part.{back_of, front_of, round_writes, some_write}
 
 pub some_served : {D : Type 0} {gives : D → Call → D → Type 0} {old new : D} {answer : Answer} (at : ℕ) (bytes : List ℕ) → 1 ≤ length bytes
     → MakesCall gives old (Writes (write_at at bytes) answer) new → MakesCalls gives old new (Serve (some_write at bytes) (error_of answer))

@@ -2,8 +2,7 @@
 use Rattle.std.proofs.Common.{◌≡◌, ◌≤◌, ◌<◌, ◌+◌, ◌*◌, ◌%◌, ◌⊎◌, ℕ, inl, inr, List, [], ◌∷◌, length, take, drop, refl, sym, subst, ⊎_elim, length-drop, arith}
 use Rattle.std.proofs.lemmas.Bool.{cases_lt}
 use Rattle.model_base.specs.declared.shape.Shape.{Shape}
-use Rattle.model_device.specs.{Covers, FailsWrite}
-use Rattle.model_device.specs.Disk.{Disk}
+use Rattle.model_device.specs.{Covers, FailsWrite, Disk}
 use Rattle.model_device.specs.declared.write.Write.{Write}
 use Rattle.model_log.specs.declared.group.Whole.{Whole}
 use Rattle.model_log.specs.declared.layout.TheConstants.{BLOCK_DATA}
@@ -17,7 +16,7 @@ use Rattle.model_parts.proofs.Puts.{adds-holds, WritesFull, WritesTail}
 use Rattle.model_parts.proofs.Torn.{AddsTorn, fails-torn}
 use Rattle.model_parts.proofs.Writing.{full-adds, IsWriting, tail-adds, writing-begin, writing-end, writing-more, writing-tail}
 use Rattle.redo_disk.specs.{write_at}
-use Rattle.redo_logdev.specs.Calls.{back_of, front_of}
+use Rattle.redo_logdev.specs.Part.{back_of, front_of}
 use Rattle.redo_logdev.specs.Writing.{FailsBlocks, written_blocks, written_if, written_round}
 use Rattle.redo_logdev.proofs.Cuts.{Cuts, cuts-of, Ends, ends-of, IsCut, tail-writes}
 

@@ -1,11 +1,10 @@
 -- What the writes of blocks leave of a device.
 use Rattle.std.specs.Prelude.{ℕ, ◌⊎◌, List, [], ◌∷◌}
-use Rattle.model_device.specs.Disk.{Disk}
-use Rattle.model_device.specs.{FailsWrite, written}
+use Rattle.model_device.specs.{Disk, FailsWrite, written}
 use Rattle.model_log.specs.{place_in, ring_start}
 use Rattle.model_log.specs.declared.layout.Layout.{Layout}
 use Rattle.redo_disk.specs.{write_at}
-use Rattle.redo_logdev.specs.Calls.{front_of, back_of}
+use Rattle.redo_logdev.specs.Part.{front_of, back_of}
 
 -- a write of no bytes isn't made
 abbrev pub written_if : ℕ → List ℕ → Disk → Disk

@@ -2,7 +2,7 @@
 ghost use Rattle.std.specs.Prelude.{◌≡◌, ◌≤◌, ◌<◌, ◌+◌, ◌*◌, ◌^◌, ◌⊎◌, length, take};
 ghost use Rattle.model_log.specs.{framed};
 ghost use Rattle.redo_block.specs.{AreFirsts};
-ghost use Rattle.redo_logdev.specs.Calls.{framed_full_blocks, full_count, last_block};
+ghost use Rattle.redo_logdev.specs.Part.{framed_full_blocks, full_count, last_block};
 
 use model_base::BLOCK_SIZE;
 use model_log::BLOCK_DATA;

@@ -4,7 +4,7 @@ ghost use Rattle.model_base.specs.declared.limits.TheConstants.{BLOCK_SIZE, STAR
 ghost use Rattle.model_device.specs.{FailsWrite};
 ghost use Rattle.model_log.specs.{IsLayout, ring_start, round_of};
 ghost use Rattle.redo_disk.specs.{error_of, HasCause, IsRange, MakesCalls, OnTold, Serve, write_at};
-ghost use Rattle.redo_logdev.specs.Calls.{block_writes, round_writes, some_write};
+ghost use Rattle.redo_logdev.specs.Part.{block_writes, round_writes, some_write};
 ghost use Rattle.redo_logdev.specs.Writing.{FailsBlocks, FailsRound, written_blocks, written_if, written_round};
 
 use model_base::BLOCK_SIZE;

@@ -1,44 +1,38 @@
 -- A run with the log alone and without archiver and followers starts as one that ends, so the turns that it spends are fewer than the
 -- greatest number.
 use Rattle.std.proofs.Common.{Bool, List, [], ap, arith, cond, drop, false, length, length-append, map, refl, subst, suc, sym, true, zero, ℕ, ◌++◌, ◌+◌, ◌<◌, ◌==◌, ◌∙◌, ◌∷◌, ◌≡◌, ◌≤◌}
-use Rattle.std.specs.Prelude.{IfSome}
+use Rattle.std.specs.Prelude.{IfSome, is_some}
 use lib.ListN.{get_elem?}
 use mathlib.Core.Option.{some, some-injective, some-ne-none}
 use Rattle.model_base.specs.declared.limits.TheConstants.{MAX_LOG_BLOCKS}
 use Rattle.model_core.proofs.Lsns.{lsn_le}
-use Rattle.model_core.specs.{Actor, collected, Core, FlusherState, Given, Line, lsn, new_flusher, new_user, new_writer, UserState, WriterState}
-use Rattle.model_core.specs.Actors as actor
-use Rattle.model_core.specs.Setup.{Setup}
+use Rattle.model_core.specs.{Actor, collected, Core, FlusherState, Given, Line, lsn, new_flusher, new_user, new_writer, UserState, WriterState, Setup}
+use Rattle.model_core.specs.States as actor
 use Rattle.model_ends.proofs.Greatest as greatest
 use Rattle.model_ends.proofs.Sizes.{sum_less}
 use Rattle.model_ends.specs.Alone.{AreLogActors, IsLogActor, StartsAlone}
 use Rattle.model_ends.specs.Bound.{bytes_of, last_lsn}
 use Rattle.model_log.specs.{lsn_of, run_layout, sn_of, stream_of}
 use Rattle.model_logcore.proofs.NewUsers.{new_user_is}
-use Rattle.model_logcore.specs.{left_to_reserve, StartActor, sum_over_actors}
-use Rattle.model_logcore.specs.LogHalf.{lengths}
+use Rattle.model_logcore.specs.{left_to_reserve, StartActor, sum_over_actors, lengths}
 use Rattle.model_running.proofs.Places.{lsn_is, sn_back}
 use Rattle.model_running.specs.{IsSpent, plain_store}
 use Rattle.model_script.specs.{group_of, script_end}
 use Rattle.model_script.specs.declared.misfit.TheConstants.{MARGIN, MAX_USERS}
 use Rattle.model_script.specs.declared.script.ScriptLine.{ScriptLine}
 use Rattle.model_script.specs.declared.words.TheConstants.{MAX_TURNS}
-use Rattle.redo_disk.specs.Seen.{Seen}
+use Rattle.redo_disk.specs.{Seen}
 use Rattle.redo_drive.proofs.DataPartLaws.{data_laws}
 use Rattle.redo_drive.proofs.LogPartLaws.{log_laws}
 use Rattle.redo_drive.proofs.ScriptRoom.{actors_reserve}
 use Rattle.redo_drive.specs.Begins.{BeginsWith}
 use Rattle.redo_drive.specs.DataPartSide as data_part
 use Rattle.redo_drive.specs.LogPartSide as log_part
-use Rattle.redo_drive.specs.Playing.{RunOf, run_data_side, run_log_side}
-use Rattle.redo_drive.specs.Setups.{programs_of, seated_actors, start_actors, user_of, users_below, users_of}
-use Rattle.redo_drive.specs.Startable.{MayBegin, room_from}
-use Rattle.redo_drive.specs.Turning.{core_of}
-use Rattle.redo_drive.specs.Views.{views_of}
+use Rattle.redo_drive.specs.{RunOf, run_data_side, run_log_side, core_of, MayBegin, room_from, views_of}
+use Rattle.redo_drive.specs.Setups.{programs_of, seated_actors, user_of, users_below, users_of}
 use Rattle.redo_drive.specs.declared.making.Beginning.{Beginning}
 use Rattle.redo_follow.specs.Following.{Following}
 use Rattle.redo_store.specs.declared.opened.Opened.{Opened}
-use Rattle.std.specs.Prelude.{is_some}
 
 -- the users, and behind them the writer and the flusher
 abbrev in_seats : List UserState → WriterState → FlusherState → List Actor
@@ -140,7 +134,7 @@ module _ {L D R : Type 0} (log_seen : L → Seen) (data_seen : D → Seen) (stan
   actors_are = begins.stands.are_new
       ∙ ap (λ (b : Bool). seated_actors opened.shape script opened.start b archive (length followers)) only
       ∙ ap (λ (b : Bool). seated_actors opened.shape script opened.start true b (length followers)) unarchived
-      ∙ ap (λ (n : ℕ). start_actors opened.shape script opened.start true n) none
+      ∙ ap (λ (n : ℕ). seated_actors opened.shape script opened.start true false n) none
 
   are_log_actors : AreLogActors actors
   are_log_actors = subst AreLogActors (sym actors_are) (record {

@@ -1,24 +1,19 @@
 -- What a run leaves of its archive, if it has one.
 use Rattle.std.proofs.Common.{Bool, List, None, Option, Some, ap, cond, is_some, sym, ℕ, ◌∙◌, ◌≡◌}
 use Rattle.model_core.specs.{Given, HasLost}
-use Rattle.model_core.specs.Actors as model
+use Rattle.model_core.specs.States as model
 use Rattle.model_script.specs.declared.script.ScriptLine.{ScriptLine}
 use Rattle.redo_archive.specs.Part.{Part}
 use Rattle.redo_archiver.specs.{append_code}
-use Rattle.redo_disk.specs.{Call}
-use Rattle.redo_disk.specs.Seen.{Seen}
+use Rattle.redo_disk.specs.{Call, Seen}
 use Rattle.redo_disk.specs.declared.error.DevError.{DevError}
 use Rattle.redo_drive.proofs.ArchiveLeft.{has_archived, lost_with}
-use Rattle.redo_drive.specs.Archived.{HaveArchived}
-use Rattle.redo_drive.specs.Archiving.{HasComeTo}
+use Rattle.redo_drive.specs.{HaveArchived, HasComeTo, RunOf, RunsWith, views_of}
 use Rattle.redo_drive.specs.Leaving.{LeavesWith}
-use Rattle.redo_drive.specs.Playing.{RunOf}
-use Rattle.redo_drive.specs.Running.{RunsWith}
-use Rattle.redo_drive.specs.Views.{views_of}
 use Rattle.redo_drive.specs.declared.actor.Actor.{Actor}
 use Rattle.redo_drive.specs.declared.drive.Driven.{Driven}
 use Rattle.redo_drive.specs.declared.parts.Parts.{Parts}
-use Rattle.redo_machine.specs.Appending.{lost_by}
+use Rattle.redo_machine.specs.Reading.{lost_by}
 use Rattle.redo_store.specs.declared.opened.Opened.{Opened}
 
 -- AN ARCHIVER THAT HAS LOST ITS ARCHIVE did so by the error of the archive.

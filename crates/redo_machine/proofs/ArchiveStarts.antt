@@ -1,16 +1,13 @@
 -- At a run's start its archive stands beside its actors.
-use Rattle.std.proofs.Common.{Bool, List, None, Option, Some, [], ap, arith, eqb-true, false, is_some, length, refl, slice_index, subst, sym}
-use Rattle.std.proofs.Common.{true, ℕ, ◌*◌, ◌++◌, ◌+◌, ◌<◌, ◌∙◌, ◌∷◌, ◌≡◌}
+use Rattle.std.proofs.Common.{Bool, List, None, Option, Some, [], ap, arith, eqb-true, false, is_some, length, refl, slice_index, subst, sym, true, ℕ, ◌*◌, ◌++◌, ◌+◌, ◌<◌, ◌∙◌, ◌∷◌, ◌≡◌}
 use Rattle.std.proofs.lemmas.Bool.{ne_eqb}
 use Rattle.std.specs.Prelude.{IfSome}
 use lib.ListN.{get_elem?}
 use mathlib.Core.Option.{some}
 use Rattle.model_base.specs.declared.shape.Shape.{Shape}
 use Rattle.model_core.proofs.Lsns.{lsn_le}
-use Rattle.model_core.specs.{flat, Given, new_reader, ReaderState}
-use Rattle.model_core.specs.Actors as model
-use Rattle.model_core.specs.Groups as core
-use Rattle.model_core.specs.Setup.{Setup}
+use Rattle.model_core.specs.{flat, Given, new_reader, ReaderState, Setup}
+use Rattle.model_core.specs.States as model
 use Rattle.model_ends.specs.Bound.{bytes_of}
 use Rattle.model_log.specs.{IsAtDataStart}
 use Rattle.model_log.specs.declared.group.Whole.{Whole}
@@ -20,25 +17,21 @@ use Rattle.model_script.specs.{script_end}
 use Rattle.model_script.specs.declared.script.ScriptLine.{ScriptLine}
 use Rattle.redo_archive.specs.Part.{Part, PartArchives}
 use Rattle.redo_archiver.specs.{append_code, KeepsPace}
-use Rattle.redo_disk.specs.{Call}
-use Rattle.redo_disk.specs.Seen.{Seen}
+use Rattle.redo_disk.specs.{Call, Seen}
 use Rattle.redo_disk.specs.declared.error.DevError.TheVariants.{Failed}
 use Rattle.redo_drive.proofs.CallsOn.{not_called}
 use Rattle.redo_drive.proofs.FollowersLeft.{among, starts_with}
 use Rattle.redo_drive.proofs.RunStarts.{no_log}
-use Rattle.redo_drive.specs.Archiving.{HasCome, HasComeTo, HasNoArchiver, IsBeside, StandsBeside}
+use Rattle.redo_drive.specs.{HasCome, HasComeTo, HasNoArchiver, IsBeside, StandsBeside, RunOf, RunsWith, AreNewFollowers, IsNewArchive, MayBegin, followers_in, views_of}
 use Rattle.redo_drive.specs.Begins.{BeginsWith}
-use Rattle.redo_drive.specs.Playing.{RunOf}
-use Rattle.redo_drive.specs.Running.{RunsWith}
-use Rattle.redo_drive.specs.Setups.{first_reader, followers_from, readers_of, seated_before}
-use Rattle.redo_drive.specs.Startable.{AreNewFollowers, IsNewArchive, MayBegin}
-use Rattle.redo_drive.specs.Views.{followers_in, views_of}
+use Rattle.redo_drive.specs.Setups.{first_reader, followers_from, readers_of}
+use Rattle.redo_drive.specs.LiveActors.{seated_before}
 use Rattle.redo_drive.specs.declared.making.Beginning.{Beginning}
 use Rattle.redo_drive.specs.declared.parts.Parts.{Parts}
 use Rattle.redo_drive.specs.declared.seating.TheConstants.{FIRST_FOLLOWER}
 use Rattle.redo_follow.specs.Following.{Following}
 use Rattle.redo_machine.proofs.Alone.{lines_end}
-use Rattle.redo_machine.specs.Appending.{AreNumbered}
+use Rattle.redo_machine.specs.Reading.{AreNumbered}
 use Rattle.redo_store.specs.declared.opened.Opened.{Opened}
 
 -- what stands behind some actors
@@ -46,7 +39,7 @@ just_behind : (xs ys : List model.Actor) (y : model.Actor) → get_elem? (xs ++ 
 just_behind [] ys y = refl
 just_behind (x ∷ xs) ys y = just_behind xs ys y
 
-no_wholes : (log : List core.Entry) (wholes : List Whole) → ◌≡◌ {A = List core.Entry} log [] → AreWholesOf log wholes
+no_wholes : (log : List model.Entry) (wholes : List Whole) → ◌≡◌ {A = List model.Entry} log [] → AreWholesOf log wholes
     → ◌≡◌ {A = List Whole} wholes []
 no_wholes [] [] none are = refl
 no_wholes [] (w ∷ ws) none are = absurd are
@@ -81,7 +74,7 @@ module _ {L D A R : Type 0} (log_seen : L → Seen) (data_seen : D → Seen) (se
   words = start.parts.words.words
 
   -- nothing has been handed on
-  empty : ◌≡◌ {A = List core.Entry} begins.from.runs.running.log_ghost.log []
+  empty : ◌≡◌ {A = List model.Entry} begins.from.runs.running.log_ghost.log []
   empty =
       let W = begins.from.runs.running in
       let first = begins.stands.words in

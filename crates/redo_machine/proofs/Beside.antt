@@ -1,9 +1,8 @@
 -- A turn beside an archive.
-use Rattle.std.proofs.Common.{Bool, List, None, Option, Some, ap, arith, cond, eqb-true, false, inl, inr, refl, subst, sym, true}
-use Rattle.std.proofs.Common.{ℕ, ◌<◌, ◌==◌, ◌∙◌, ◌≡◌}
+use Rattle.std.proofs.Common.{Bool, List, None, Option, Some, ap, arith, cond, eqb-true, false, inl, inr, refl, subst, sym, true, ℕ, ◌<◌, ◌==◌, ◌∙◌, ◌≡◌}
 use lib.ListN.{get_elem?}
 use mathlib.Core.Option.{some, some-injective}
-use Rattle.model_core.specs.Actors as model
+use Rattle.model_core.specs.States as model
 use Rattle.model_core.specs.{archives, next, OwnServed, ReaderState}
 use Rattle.model_core.specs.declared.ops.Answer.{Answer}
 use Rattle.model_core.specs.declared.ops.Answer.TheVariants as answers
@@ -15,22 +14,19 @@ use Rattle.model_running.proofs.Archiving.{others_append_not}
 use Rattle.model_running.specs.{IsNoAppend}
 use Rattle.redo_archive.specs.Part.{Part}
 use Rattle.redo_archiver.specs.{append_answer, append_code, IsAppended, KeepsPace, MayAppendBlock}
-use Rattle.redo_disk.specs.Seen.{Seen}
+use Rattle.redo_disk.specs.{Seen}
 use Rattle.redo_disk.specs.declared.error.DevError.{DevError}
 use Rattle.redo_disk.specs.declared.error.DevError.TheVariants.{Failed, NoMemory}
 use Rattle.redo_drive.proofs.ArchiveTurns.{one_reader, who_appends}
 use Rattle.redo_drive.proofs.MayTurn as may_turn
 use Rattle.redo_drive.proofs.Played.{untouched}
-use Rattle.redo_drive.specs.Archiving.{IsBeside}
-use Rattle.redo_drive.specs.Playing.{IsPlayed, RunOf, run_data_side, run_log_side}
-use Rattle.redo_drive.specs.Running.{RunsWith}
+use Rattle.redo_drive.specs.{IsBeside, IsPlayed, RunOf, run_data_side, run_log_side, RunsWith, view_of, views_of}
 use Rattle.redo_drive.proofs.Viewed.{views_at}
-use Rattle.redo_drive.specs.Views.{view_of, views_of}
 use Rattle.redo_drive.specs.declared.actor.Actor.{Actor}
 use Rattle.redo_drive.specs.declared.actor.Actor.TheVariants as own
 use Rattle.redo_drive.specs.declared.parts.Parts.{Parts}
 use Rattle.redo_follow.specs.Following.{Following}
-use Rattle.redo_machine.specs.Appending.{AreNumbered, IsArchiver, MayAppendTo, MayServeWith}
+use Rattle.redo_machine.specs.Reading.{AreNumbered, IsArchiver, MayAppendTo, MayServeWith}
 
 -- whoever appends is a reader
 pub reader_appends : (a : model.Actor) (mark : ℕ) → next a ≡ op.Append mark

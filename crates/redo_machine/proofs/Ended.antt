@@ -4,14 +4,14 @@ use Rattle.std.specs.Prelude.{◌≢◌}
 use native.Mathlib.Decide.{ℕ_discrete}
 use lib.ListN.{get_elem?}
 use mathlib.Core.Option.{some, some-injective, some-ne-none}
-use Rattle.model_core.specs.Actors as model
+use Rattle.model_core.specs.States as model
 use Rattle.model_core.specs.{UserState}
 use Rattle.model_core.specs.declared.steps.UserStep.{UserStep}
 use Rattle.model_core.specs.declared.steps.UserStep.TheVariants as user_step
 use Rattle.model_running.specs.{HasEnded, HaveEnded}
 use Rattle.redo_drive.proofs.Viewed.{length_views, view_at}
 use Rattle.redo_machine.specs.OpenUsers.{IsFirstOpen, IsOpen, IsOpenUser, IsOver}
-use Rattle.redo_drive.specs.Views.{view_of, views_of}
+use Rattle.redo_drive.specs.{view_of, views_of}
 use Rattle.redo_drive.specs.declared.actor.Actor.{Actor}
 use Rattle.redo_useractor.specs.{has_ended}
 

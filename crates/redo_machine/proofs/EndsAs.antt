@@ -1,8 +1,6 @@
 -- A run by turns that ended so: turns led there, and it is a run of another store that ended so.
 use Rattle.std.proofs.Common.{List, ℕ, ◌≡◌}
-use Rattle.model_core.specs.{Actor}
-use Rattle.model_core.specs.DataSide.{DataSide}
-use Rattle.model_core.specs.LogSide.{LogSide}
+use Rattle.model_core.specs.{Actor, DataSide, LogSide}
 use Rattle.model_core.specs.declared.ops.Step.{Step}
 use Rattle.model_running.proofs.TurnsAs.{done_as, spent_as}
 use Rattle.model_running.specs.{TakesTurns, TurnStore}

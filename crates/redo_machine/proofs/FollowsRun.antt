@@ -1,27 +1,23 @@
 -- A follower of a machine in its run has what the invariant says of it.
-use Rattle.std.proofs.Common.{Bool, List, [], ap, arith, cond, false, slice_index, subst, sym, ℕ}
-use Rattle.std.proofs.Common.{◌<◌, ◌∙◌, ◌≡◌, ◌≢◌, ◌≤◌}
+use Rattle.std.proofs.Common.{Bool, List, [], ap, arith, cond, false, slice_index, subst, sym, ℕ, ◌<◌, ◌∙◌, ◌≡◌, ◌≢◌, ◌≤◌}
 use Rattle.std.proofs.lemmas.Bool.{ne_eqb}
 use lib.ListN.{get_elem?}
 use mathlib.Core.Option.{some}
 use Rattle.model_core.proofs.Lsns.{lsn_le}
-use Rattle.model_core.specs.{archives, Entry, Given, index, IsWord, layout_of, SharedWords}
-use Rattle.model_core.specs.Actors as model
+use Rattle.model_core.specs.{archives, Entry, Given, index, IsWord, layout_of, SharedWords, Setup}
+use Rattle.model_core.specs.States as model
 use Rattle.model_core.specs.NamedWords.{read}
-use Rattle.model_core.specs.Setup.{Setup}
 use Rattle.model_core.specs.declared.words.Word.{Word}
 use Rattle.model_core.specs.declared.words.Word.TheVariants as word
 use Rattle.model_running.proofs.FlatWords.{flat_read}
 use Rattle.model_running.specs.ReadHalf.{FollowerHas, groups_upto, HasByKind, ReaderHas, ReadHalf}
-use Rattle.redo_disk.specs.Seen.{Seen}
+use Rattle.redo_disk.specs.{Seen}
 use Rattle.redo_drive.proofs.Viewed.{views_at}
-use Rattle.redo_drive.specs.Playing.{RunOf, run_log_side}
-use Rattle.redo_drive.specs.Running.{RunsFromWith}
-use Rattle.redo_drive.specs.Views.{views_of}
+use Rattle.redo_drive.specs.{RunOf, run_log_side, RunsFromWith, views_of}
 use Rattle.redo_drive.specs.declared.actor.Actor.{Actor}
 use Rattle.redo_drive.specs.declared.actor.Actor.TheVariants as own
 use Rattle.redo_drive.specs.declared.parts.Parts.{Parts}
-use Rattle.redo_follow.specs.Handing.{StandsFor}
+use Rattle.redo_follow.specs.{StandsFor}
 use Rattle.redo_follow.specs.Following.{Following}
 use Rattle.redo_machine.specs.Following.{FollowsLog}
 

@@ -1,19 +1,15 @@
 -- Reads of the log for its readers, and what an actor makes of the answer to what was played for it.
 use Rattle.std.proofs.Common.{List, ap, refl, subst, sym, ℕ, ⊎_elim, ◌∙◌, ◌≡◌}
-use Rattle.model_core.specs.Actors as model
-use Rattle.model_core.specs.AnswerFits.{AnswerFits}
-use Rattle.model_core.specs.{Given, lent, next, ReaderState}
+use Rattle.model_core.specs.States as model
+use Rattle.model_core.specs.{AnswerFits, Given, lent, next, ReaderState}
 use Rattle.model_core.specs.declared.ops.Answer.{Answer}
 use Rattle.model_core.specs.declared.ops.Op.{Op}
 use Rattle.model_core.specs.declared.ops.Op.TheVariants as op
 use Rattle.model_core.specs.declared.ops.Step.{Step}
-use Rattle.redo_disk.specs.Seen.{Seen}
+use Rattle.redo_disk.specs.{Seen}
 use Rattle.redo_drive.proofs.Filled.{block_fits, block_mark_fits, IsNoRead, reader_or_no_read, serves, serves_archiver, serves_read}
 use Rattle.redo_drive.proofs.TurnsOf.{answer_fits, mark_fits, some_run}
-use Rattle.redo_drive.specs.Playing.{IsPlayed, LogReady, RunOf}
-use Rattle.redo_drive.specs.Receiving.{HasTaken, MarkFits}
-use Rattle.redo_drive.specs.Turning.{IsServed, MayServe}
-use Rattle.redo_drive.specs.Views.{view_of}
+use Rattle.redo_drive.specs.{IsPlayed, LogReady, RunOf, IsServed, MayServe, HasTaken, MarkFits, view_of}
 use Rattle.redo_drive.specs.declared.actor.Actor.{Actor}
 use Rattle.redo_drive.specs.declared.actor.Actor.TheVariants as own
 use Rattle.redo_drive.specs.declared.parts.Parts.{Parts}

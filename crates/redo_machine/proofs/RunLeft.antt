@@ -1,48 +1,35 @@
 -- What a run by turns leaves, and so what it comes to.
-use Rattle.std.proofs.Common.{Bool, List, Option, ap, arith, cond, false, is_some, length, refl, slice_index, subst}
-use Rattle.std.proofs.Common.{sym, true, ℕ, ◌∙◌, ◌<◌, ◌≡◌}
-use Rattle.model_core.specs.{Core, Given, HasLost, lsn}
-use Rattle.model_core.specs.Layout.{failed_at}
+use Rattle.std.proofs.Common.{Bool, List, Option, ap, arith, cond, false, is_some, length, refl, slice_index, subst, sym, true, ℕ, ◌∙◌, ◌<◌, ◌≡◌}
+use Rattle.model_core.specs.{Core, Given, HasLost, lsn, failed_at}
 use Rattle.model_running.proofs.OpenLines as open_lines
 use Rattle.model_running.proofs.Seated.{seated_seats}
 use Rattle.model_running.proofs.TurnsAs.{plain_spent}
-use Rattle.model_running.specs.{AskAt, HaveEnded, history_of, IsDone, IsSpent, LeavesOpen, marks_in}
-use Rattle.model_running.specs.{TurnStore, word_marks}
+use Rattle.model_running.specs.{AskAt, HaveEnded, history_of, IsDone, IsSpent, LeavesOpen, marks_in, TurnStore, word_marks}
 use Rattle.model_report.specs.declared.entry.Entry.{Entry}
 use Rattle.model_script.specs.declared.script.ScriptLine.{ScriptLine}
 use Rattle.model_script.specs.declared.words.TheConstants.{MAX_TURNS}
-use Rattle.redo_disk.specs.{Call}
-use Rattle.redo_disk.specs.Seen.{Seen}
+use Rattle.redo_disk.specs.{Call, Seen}
 use Rattle.redo_logdev.specs.Part as log
 use Rattle.redo_archive.specs.Part.{Part}
 use Rattle.redo_archiver.specs.{append_code}
 use Rattle.redo_drive.proofs.ShapeStays.{run_shape}
 use Rattle.redo_drive.proofs.ThinTurns.{thin, turn_thin}
-use Rattle.redo_drive.specs.Archived.{HaveArchived}
-use Rattle.redo_drive.specs.Asking.{AskOfParts}
-use Rattle.redo_drive.specs.Archiving.{HasComeTo}
+use Rattle.redo_drive.specs.{HaveArchived, HasComeTo, AskOfParts, AreNewFollowers, MayBegin, CallOnBoth, CallsOn, ListsInOrder, views_of, RunsFromWith, RunOf, run_data_side, run_log_side, core_of}
 use Rattle.redo_drive.specs.LogPartSide as log_part
 use Rattle.redo_drive.proofs.LeftRun as left_run
 use Rattle.redo_drive.specs.Followed.{HaveFollowed}
 use Rattle.redo_drive.specs.Setups.{seated_actors}
-use Rattle.redo_drive.specs.Startable.{AreNewFollowers, MayBegin}
-use Rattle.redo_drive.specs.Calls.{CallOnBoth, CallsOn}
 use Rattle.redo_drive.specs.Drive.{HasMetError, Owes}
 use Rattle.redo_machine.proofs.Alone as alone
 use Rattle.redo_machine.proofs.ArchiveEnds.{have_archived, loses_by}
-use Rattle.redo_machine.specs.Appending.{lost_by}
+use Rattle.redo_machine.specs.Reading.{lost_by}
 use Rattle.redo_machine.proofs.EndsAs.{ends_as, turns_taken}
 use Rattle.redo_machine.proofs.StartLayout.{start_layout}
 use Rattle.redo_machine.specs.ByTurns.{EndsAs, NothingIsDone, RunsByTurns, turn_store}
 use Rattle.redo_drive.specs.Begins.{BeginsWith}
-use Rattle.redo_drive.specs.History.{ListsInOrder}
 use Rattle.redo_drive.specs.Leaving.{LeavesWith}
-use Rattle.redo_drive.specs.Running.{RunsFromWith}
 use Rattle.redo_drive.specs.declared.making.Beginning.{Beginning}
-use Rattle.redo_drive.specs.Playing.{RunOf, run_data_side, run_log_side}
-use Rattle.redo_drive.specs.Turning.{core_of}
 use Rattle.redo_machine.specs.Turns.{RunEndsAs, run_store}
-use Rattle.redo_drive.specs.Views.{views_of}
 use Rattle.redo_drive.specs.declared.actor.Actor.{Actor}
 use Rattle.redo_drive.specs.declared.drive.Driven.{Driven}
 use Rattle.redo_machine.specs.declared.drive.Turns.{Turns}

@@ -4,28 +4,21 @@ use Rattle.std.proofs.lemmas.Bool.{lt-ltb}
 use Rattle.std.specs.Prelude.{IfSome}
 use lib.ListN.{get_elem?}
 use mathlib.Core.Option.{some}
-use Rattle.model_core.specs.Actors as model
-use Rattle.model_core.specs.Setup.{Setup}
-use Rattle.model_core.specs.{Given, lent, next}
-use Rattle.model_core.specs.Turn.{Turn}
+use Rattle.model_core.specs.States as model
+use Rattle.model_core.specs.{Setup, Given, lent, next}
+use Rattle.model_core.specs.Program.{Turn}
 use Rattle.model_core.specs.declared.ops.Step.{Step}
 use Rattle.model_running.proofs.TurnsAs.{one_more}
 use Rattle.model_running.specs.{AreSeated, HaveEnded, seat_of_turn, TakesTurns}
 use Rattle.model_script.specs.{draw, first_state, next_state, state_after}
-use Rattle.redo_disk.specs.{Call}
-use Rattle.redo_disk.specs.Seen.{Seen}
+use Rattle.redo_disk.specs.{Call, Seen}
 use Rattle.redo_machine.proofs.UserSeats.{first_is_least}
 use Rattle.redo_drive.proofs.Viewed.{length_views, so_at}
-use Rattle.redo_drive.specs.Asking.{AskOfBoth}
-use Rattle.redo_drive.specs.Calls.{CallOnBoth}
+use Rattle.redo_drive.specs.{AskOfBoth, CallOnBoth, RunOf, run_data_side, run_log_side, RunsWith, TakesTurn, core_of, view_of, views_of}
 use Rattle.redo_machine.specs.OpenUsers.{IsFirstOpen}
-use Rattle.redo_drive.specs.Playing.{RunOf, run_data_side, run_log_side}
 use Rattle.redo_archive.specs.Part.{Part}
-use Rattle.redo_drive.specs.Running.{RunsWith}
-use Rattle.redo_machine.specs.Appending.{ComesFrom, IsOnRun}
-use Rattle.redo_drive.specs.Turning.{TakesTurn, core_of}
+use Rattle.redo_machine.specs.Reading.{ComesFrom, IsOnRun}
 use Rattle.redo_machine.specs.Turns.{IsDrawn, RunEndsAs, run_store}
-use Rattle.redo_drive.specs.Views.{view_of, views_of}
 use Rattle.redo_drive.specs.declared.actor.Actor.{Actor}
 use Rattle.redo_machine.specs.declared.machine.Machine.{Machine}
 use Rattle.redo_drive.specs.declared.drive.RunEnd.TheVariants as ran

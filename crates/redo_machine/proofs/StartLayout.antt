@@ -3,7 +3,7 @@ use Rattle.std.proofs.Common.{Bool, List, ◌≡◌}
 use Rattle.model_core.specs.{Given}
 use Rattle.model_core.specs.declared.words.Layout.{Layout}
 use Rattle.model_script.specs.declared.script.ScriptLine.{ScriptLine}
-use Rattle.redo_disk.specs.Seen.{Seen}
+use Rattle.redo_disk.specs.{Seen}
 use Rattle.redo_drive.specs.Begins.{BeginsWith}
 use Rattle.redo_drive.specs.declared.making.Beginning.{Beginning}
 use Rattle.redo_follow.specs.Following.{Following}

@@ -1,35 +1,28 @@
 -- A turn of a machine, beside an archive or none.
-use Rattle.std.proofs.Common.{Bool, List, None, false, true, Option, Some, ap, arith, get_or, inl, inr, is_some, length, refl, set, subst, sym}
-use Rattle.std.proofs.Common.{⊎_elim, ℕ, ◌<◌, ◌∙◌, ◌≡◌, ◌⊎◌}
+use Rattle.std.proofs.Common.{Bool, List, None, false, true, Option, Some, ap, arith, get_or, inl, inr, is_some, length, refl, set, subst, sym, ⊎_elim, ℕ, ◌<◌, ◌∙◌, ◌≡◌, ◌⊎◌}
 use lib.ListN.{get_elem?}
 use mathlib.Core.Option.{some}
 use Rattle.model_core.proofs.Lists.{at_set}
 use Rattle.model_core.specs.{archives, Given, HasLost, next, ReaderState}
-use Rattle.model_core.specs.Actors as model
+use Rattle.model_core.specs.States as model
 use Rattle.model_core.specs.declared.ops.Step.{Step}
 use Rattle.model_core.specs.declared.ops.Step.TheVariants as ended
 use Rattle.model_logcore.specs.LogLaws.{LogLaws}
 use Rattle.model_pagecore.specs.DataLaws.{DataLaws}
 use Rattle.model_running.specs.{IsNoAppend}
 use Rattle.redo_archive.specs.Part.{Part}
-use Rattle.redo_disk.specs.{Call}
-use Rattle.redo_disk.specs.Seen.{Seen}
+use Rattle.redo_disk.specs.{Call, Seen}
 use Rattle.redo_drive.proofs.ArchiveGroups.{comes_on}
 use Rattle.redo_drive.proofs.ArchiveTurns as turns
 use Rattle.redo_drive.proofs.FailedTurns.{failed_turn_has_some}
 use Rattle.redo_drive.proofs.TurnsOf.{its_turn, runs_on}
 use Rattle.redo_drive.proofs.Viewed.{own_at}
-use Rattle.redo_drive.specs.Archiving.{Appends, HasComeTo, HasNoArchiver, IsBeside}
-use Rattle.redo_drive.specs.Playing.{HasSamePages, RunOf, run_data_side, run_log_side}
-use Rattle.redo_drive.specs.Receiving.{follower_of, IsSameFollower}
-use Rattle.redo_drive.specs.Running.{RunsWith}
-use Rattle.redo_drive.specs.Turning.{FailedHasCause, code_in, core_of}
-use Rattle.redo_drive.specs.Views.{view_of, views_of}
+use Rattle.redo_drive.specs.{Appends, HasComeTo, HasNoArchiver, IsBeside, HasSamePages, RunOf, run_data_side, run_log_side, RunsWith, FailedHasCause, code_in, core_of, follower_of, IsSameFollower, view_of, views_of}
 use Rattle.redo_drive.specs.declared.actor.Actor.{Actor}
 use Rattle.redo_drive.specs.declared.actor.Actor.TheVariants as own
 use Rattle.redo_drive.specs.declared.parts.Parts.{Parts}
 use Rattle.redo_follow.specs.Following.{Following}
-use Rattle.redo_machine.specs.Appending.{AreNumbered, IsServedWith}
+use Rattle.redo_machine.specs.Reading.{AreNumbered, IsServedWith}
 
 -- a follower keeps its number
 numbered_then : {R : Type 0} (a : Actor R) (g : Following R) → IsSameFollower (follower_of a) (Some g)

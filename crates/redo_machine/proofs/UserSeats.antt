@@ -2,12 +2,11 @@
 use Rattle.std.proofs.Common.{Bool, List, [], ap, arith, refl, suc, sym, zero, ℕ, ◌<◌, ◌∙◌, ◌∷◌, ◌≡◌, ◌≤◌}
 use native.Mathlib.Decide.{dec_le}
 use lib.ListN.{get_elem?}
-use Rattle.model_core.specs.{Actor, UserState}
-use Rattle.model_core.specs.Setup.{Setup}
+use Rattle.model_core.specs.{Actor, UserState, Setup}
 use Rattle.model_running.proofs.Seated.{user_seat}
 use Rattle.model_running.specs.{AreSeated, HasEnded}
 use Rattle.redo_machine.specs.OpenUsers.{IsFirstOpen}
-use Rattle.model_core.specs.Actors as actor
+use Rattle.model_core.specs.States as actor
 use mathlib.Core.Option as maybe
 
 -- each user has a lower number than the next

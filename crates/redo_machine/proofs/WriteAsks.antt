@@ -1,13 +1,12 @@
 -- What a write of the log, and that of a batch, ask of both devices.
 use Rattle.std.proofs.Common.{None, Option, [], refl, subst, sym, ℕ, ◌≡◌}
-use Rattle.model_core.specs.Actors as model
+use Rattle.model_core.specs.States as model
 use Rattle.model_core.specs.declared.ops.Op.{Op}
 use Rattle.model_core.specs.declared.ops.Op.TheVariants as op
 use Rattle.redo_disk.proofs.Made.{no_calls}
 use Rattle.redo_disk.specs.{Call, MakesCalls, Serve}
 use Rattle.redo_disk.specs.declared.error.DevError.{DevError}
-use Rattle.redo_drive.specs.Asking.{AskOf, AskOfParts, lent_pages, lent_writes}
-use Rattle.redo_drive.specs.Playing.{DataReady, MayBatchLent, MayWriteLent}
+use Rattle.redo_drive.specs.{AskOf, AskOfParts, lent_pages, lent_writes, DataReady, MayBatchLent, MayWriteLent}
 use Rattle.redo_logdev.specs.Part as log
 use Rattle.redo_store.specs.Part as store
 use Rattle.redo_words.specs.declared.lent.Lent.{Lent}
@@ -22,7 +21,7 @@ write_live part mark (lending.Batch pages frames) may = absurd may
 pub not_asked : {D : Type 0} (gives : D → Call → D → Type 0) (device : D) (failed : Option DevError) → AskOf gives [] device failed device failed
 not_asked gives device failed = record {
   live = λ none. subst (λ (e : Option DevError). MakesCalls gives device device (Serve [] e)) (sym none)
-      (no_calls gives device (Serve [] None) (record { ends = record { stop = tt; first = refl }; rest = []; asked = refl; all = λ none. refl }));
+      (no_calls gives device (Serve [] None) (record { ends = refl; rest = []; asked = refl; all = λ none. refl }));
   over = λ some. (refl, refl);
 }
 

@@ -1,21 +1,14 @@
 -- A whole run by turns: from the opened store to the closed one.
 use Rattle.std.specs.Prelude.{Bool, List, [], false, slice_index, true, ℕ, ◌<◌, ◌≡◌}
-use Rattle.model_core.specs.{Core, flat, Listed}
-use Rattle.model_core.specs.Layout.{failed_at}
-use Rattle.model_core.specs.Actors as model
-use Rattle.model_core.specs.DataSide.{DataSide}
-use Rattle.model_core.specs.LogSide.{LogSide}
+use Rattle.model_core.specs.{Core, flat, Listed, failed_at, DataSide, LogSide}
+use Rattle.model_core.specs.States as model
 use Rattle.model_ownrun.specs.OwnRuns.{AskOrGo, own_store}
 use Rattle.model_running.specs.{AskAt, IsDone, IsSpent, TurnStore, actor_store, marks_in}
 use Rattle.model_script.specs.declared.script.ScriptLine.{ScriptLine}
 use Rattle.model_script.specs.declared.words.TheConstants.{MAX_TURNS}
-use Rattle.redo_disk.specs.{Call}
-use Rattle.redo_disk.specs.Seen.{Seen}
-use Rattle.redo_drive.specs.Asking.{AskOfParts}
-use Rattle.redo_drive.specs.FirstWords.{first_words}
-use Rattle.redo_drive.specs.History.{ListsInOrder}
-use Rattle.redo_drive.specs.Setups.{seated_actors}
-use Rattle.redo_drive.specs.TurnSides.{turn_data_side, turn_log_side}
+use Rattle.redo_disk.specs.{Call, Seen}
+use Rattle.redo_drive.specs.{AskOfParts, turn_data_side, turn_log_side, ListsInOrder}
+use Rattle.redo_drive.specs.Setups.{first_words, seated_actors}
 use Rattle.redo_drive.specs.declared.drive.Driven.{Driven}
 use Rattle.redo_drive.specs.declared.drive.RunEnd.{RunEnd}
 use Rattle.redo_drive.specs.declared.drive.RunEnd.TheVariants as ran

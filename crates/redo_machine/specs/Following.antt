@@ -4,7 +4,7 @@ use Rattle.model_core.specs.{Entry, flushed_at, Given, index, IsBound, lsn}
 use Rattle.model_core.specs.declared.words.Word.TheVariants as word
 use Rattle.model_running.specs.ReadHalf.{groups_upto}
 use Rattle.redo_drive.specs.declared.parts.Parts.{Parts}
-use Rattle.redo_follow.specs.Handing.{StandsFor}
+use Rattle.redo_follow.specs.{StandsFor}
 use Rattle.redo_follow.specs.Following.{Following}
 
 -- It follows the log of a run that starts at the sn `base`, and which has these groups. Its place stands between

@@ -1,4 +1,3 @@
-pub mod Appending
 pub mod ByTurns
 pub mod Following
 pub mod OpenUsers

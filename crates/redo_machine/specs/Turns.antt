@@ -1,11 +1,10 @@
 -- The turns of a run, as the invariant sees it.
 use Rattle.std.specs.Prelude.{List, ℕ, ◌/◌, ◌<◌, ◌≡◌}
-use Rattle.model_core.specs.Actors as model
+use Rattle.model_core.specs.States as model
 use Rattle.model_running.specs.{AskAt, TurnStore, actor_store}
 use Rattle.model_script.specs.{first_state, state_after}
-use Rattle.redo_disk.specs.{Call}
-use Rattle.redo_disk.specs.Seen.{Seen}
-use Rattle.redo_drive.specs.Asking.{AskOfParts}
+use Rattle.redo_disk.specs.{Call, Seen}
+use Rattle.redo_drive.specs.{AskOfParts}
 use Rattle.redo_drive.specs.Sides.{core_of, RunOf, run_data_side, run_log_side}
 use Rattle.redo_drive.specs.declared.drive.RunEnd.{RunEnd}
 use Rattle.redo_drive.specs.declared.parts.Parts.{Parts}

@@ -1,13 +1,9 @@
 // A store after its run.
-ghost use Rattle.std.specs.Prelude.{◌≡◌, ◌≤◌, [], Bool, length, slice_index, vec_capacity};
-ghost use Rattle.model_core.specs.{index, IsWord};
-ghost use Rattle.model_core.specs.Layout.{failed_at};
+ghost use Rattle.std.specs.Prelude.{◌≡◌, ◌≤◌, [], Bool, false, length, slice_index, vec_capacity};
+ghost use Rattle.model_core.specs.{index, IsWord, failed_at};
 ghost use Rattle.model_running.specs.{history_of, marks_in, word_marks};
-ghost use Rattle.redo_drive.specs.History.{ListsInOrder};
-ghost use Rattle.redo_drive.specs.Playing.{RunOf};
-ghost use Rattle.redo_drive.specs.Running.{AreOnRun, RunsWith};
-ghost use Rattle.redo_drive.specs.Views.{views_of};
-ghost use Rattle.redo_machine.specs.Appending.{lost_by};
+ghost use Rattle.redo_drive.specs.{ListsInOrder, views_of, RunOf, AreOnRun, RunsWith};
+ghost use Rattle.redo_machine.specs.Reading.{lost_by};
 
 use crate::machine::Machine;
 use model_report::Marks;
@@ -62,10 +58,10 @@ impl<L: Sectors, D: Sectors, A: Sectors, R: Receiver> Machine<L, D, A, R> {
         ensures code { result.0.code ≡ slice_index self.parts.words.words failed_at }
         ensures marks { result.0.marks ≡ marks_in self.parts.words.words }
         ensures history { (run : RunOf L D) (archive : Bool) (runs : RunsWith L.seen D.seen run archive self.parts (views_of self.actors.items))
-            → self.entries.items ≡ [] → length runs.running.log_ghost.log ≤ vec_capacity self.entries
+            → run.live ≡ false → self.entries.items ≡ [] → length runs.running.log_ghost.log ≤ vec_capacity self.entries
             → result.0.history ≡ history_of runs.running.log_ghost.answered (word_marks runs.running.shared) runs.running.log_ghost.log }
         ensures listed { (run : RunOf L D) (archive : Bool) (runs : RunsWith L.seen D.seen run archive self.parts (views_of self.actors.items))
-            → self.entries.items ≡ [] → length runs.running.log_ghost.log ≤ vec_capacity self.entries
+            → run.live ≡ false → self.entries.items ≡ [] → length runs.running.log_ghost.log ≤ vec_capacity self.entries
             → ListsInOrder result.0.marks (views_of self.actors.items) result.0.history }
     {
         let Machine {

@@ -1,8 +1,8 @@
 // A running store.
 ghost use Rattle.std.specs.Prelude.{◌≡◌, IfErr, IfOk, IfSome, is_some};
-ghost use Rattle.redo_drive.specs.Startable.{AreNewFollowers, IsNewArchive, MayBegin};
+ghost use Rattle.redo_drive.specs.{AreNewFollowers, IsNewArchive, MayBegin};
 ghost use Rattle.redo_drive.specs.Begins.{BeginsWith};
-ghost use Rattle.redo_machine.specs.Appending.{IsOnRun};
+ghost use Rattle.redo_machine.specs.Reading.{IsOnRun};
 
 use model_report::Entry;
 use model_script::Script;

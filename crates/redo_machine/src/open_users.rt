@@ -2,7 +2,7 @@
 ghost use Rattle.std.specs.Prelude.{◌≡◌, MatchOption};
 ghost use Rattle.model_running.specs.{HasEnded, HaveEnded};
 ghost use Rattle.redo_machine.specs.OpenUsers.{IsFirstOpen, IsOpen, IsOpenUser, IsOver};
-ghost use Rattle.redo_drive.specs.Views.{view_of, views_of};
+ghost use Rattle.redo_drive.specs.{view_of, views_of};
 
 use redo_drive::Actor;
 use redo_follow::Receiver;

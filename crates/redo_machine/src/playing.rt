@@ -1,14 +1,11 @@
 // Playing the Ops of an actor.
 ghost use Rattle.std.specs.Prelude.{◌≡◌, ◌≢◌, ◌==◌, ◌%◌, ◌<◌, ◌+◌, ℕ, if◌then◌else◌, slice_index, slice_set, None, is_some};
-ghost use Rattle.model_core.specs.Actors as model;
+ghost use Rattle.model_core.specs.States as model;
 ghost use Rattle.model_core.specs.{answer_of, Each, index, IsWord, list_answer, list_word, lists_left, oldest_end, oldest_of, words_left};
 ghost use Rattle.model_core.specs.declared.limits.TheConstants.{CLOSED_LINKS};
 ghost use Rattle.model_core.specs.declared.ops.Op.TheVariants as op;
 ghost use Rattle.model_core.specs.declared.words.Word.TheVariants as word_is;
-ghost use Rattle.redo_drive.specs.Asking.{AskOfBoth};
-ghost use Rattle.redo_drive.specs.Calls.{CallOnBoth};
-ghost use Rattle.redo_drive.specs.Lists.{lists_of};
-ghost use Rattle.redo_drive.specs.Playing.{HasSameDevices, HasSamePages, HasWholePages, IsPlayable, IsPlayed, RunOf};
+ghost use Rattle.redo_drive.specs.{AskOfBoth, CallOnBoth, lists_of, HasSameDevices, HasSamePages, HasWholePages, IsPlayable, IsPlayed, RunOf};
 ghost use Rattle.redo_words.specs.{Lends};
 
 use model_core::FLUSH_LISTS;

@@ -1,13 +1,10 @@
 // A run by turns.
 ghost use Rattle.std.specs.Prelude.{◌≡◌, ◌<◌, ◌+◌, Bool, List, Option, ℕ};
 ghost use Rattle.model_running.specs.{seat_of_turn};
-ghost use Rattle.redo_drive.specs.Calls.{CallOnBoth};
-ghost use Rattle.redo_drive.specs.Playing.{RunOf};
+ghost use Rattle.redo_drive.specs.{CallOnBoth, RunOf, RunsWith, views_of};
 ghost use Rattle.redo_archive.specs.Part.{Part};
-ghost use Rattle.redo_drive.specs.Running.{RunsWith};
-ghost use Rattle.redo_drive.specs.Views.{views_of};
 ghost use Rattle.redo_drive.specs.declared.actor.Actor.{Actor as TheActor};
-ghost use Rattle.redo_machine.specs.Appending.{ComesFrom, IsOnRun};
+ghost use Rattle.redo_machine.specs.Reading.{ComesFrom, IsOnRun};
 ghost use Rattle.redo_machine.specs.Turns.{RunEndsAs, IsDrawn};
 
 use crate::machine::Machine;

@@ -1,19 +1,12 @@
 // One turn.
 ghost use Rattle.std.specs.Prelude.{◌≡◌, ◌<◌, ◌⊎◌, ℕ, Bool, IfSome, List, Option, length, slice_get};
-ghost use Rattle.model_core.specs.{lent, next};
+ghost use Rattle.model_core.specs.{lent, next, HasLost};
 ghost use Rattle.model_core.specs.declared.ops.Op.TheVariants as op;
-ghost use Rattle.redo_drive.specs.Asking.{AskOfBoth};
-ghost use Rattle.redo_drive.specs.Calls.{CallOnBoth};
-ghost use Rattle.redo_drive.specs.Playing.{HasSamePages, RunOf};
-ghost use Rattle.redo_drive.specs.Running.{RunsWith};
-ghost use Rattle.redo_drive.specs.Turning.{FailedHasCause, IsServed, MayServe, TakesTurn, code_in};
-ghost use Rattle.redo_drive.specs.Views.{view_of, views_of};
+ghost use Rattle.redo_drive.specs.{AskOfBoth, CallOnBoth, HasSamePages, RunOf, RunsWith, FailedHasCause, IsServed, MayServe, TakesTurn, code_in, view_of, views_of};
 ghost use Rattle.redo_drive.specs.declared.actor.Actor.{Actor as TheActor};
 ghost use Rattle.redo_logdev.specs.{MayRead};
-ghost use Rattle.model_core.specs.{HasLost};
 ghost use Rattle.redo_archive.specs.Part.{Part};
-ghost use Rattle.redo_machine.specs.Appending.{ComesFrom, HasAppended, IsArchiver, IsOnRun, IsServedWith, MayAppendTo, MayServeWith};
-ghost use Rattle.redo_machine.specs.Reading.{HasPlayed, HasRead};
+ghost use Rattle.redo_machine.specs.Reading.{ComesFrom, HasAppended, IsArchiver, IsOnRun, IsServedWith, MayAppendTo, MayServeWith, HasPlayed, HasRead};
 
 use crate::machine::Machine;
 use crate::playing::play;

@@ -4,12 +4,10 @@ use Rattle.std.proofs.lemmas.Bool.{cases_lt}
 use Rattle.model_base.specs.{HasRisen}
 use Rattle.model_device.specs.declared.write.Write.{Write}
 use Rattle.redo_disk.specs.declared.error.DevError.TheVariants.{Failed, NoMemory}
-use Rattle.redo_disk.specs.{Answer, Call, call_changes, changing_calls, device_answer, error_of, failed_calls, failures, Makes, MakesCalls, Reads, Syncs, Writes}
-use Rattle.redo_disk.specs.Seen.{Seen}
+use Rattle.redo_disk.specs.{Answer, Call, call_changes, changing_calls, device_answer, error_of, failed_calls, failures, Makes, MakesCalls, Reads, Syncs, Writes, Seen}
 use Rattle.redo_memdisk.specs.Before.{fused-before}
 use Rattle.redo_memdisk.specs.Counted.{CountsCalls, KeepsBehind, Through, after_calls, after_one}
-use Rattle.redo_memdisk.specs.Fuse.{fails_next}
-use Rattle.redo_memdisk.specs.Fused.{CallsThrough, ReadsThrough, SyncsThrough, WritesThrough}
+use Rattle.redo_memdisk.specs.Fused.{fails_next, CallsThrough, ReadsThrough, SyncsThrough, WritesThrough}
 use Rattle.redo_memdisk.specs.declared.fused.Fused.{Fused}
 use Rattle.redo_memdisk.proofs.Counted.{CountsCalls-change, CountsCalls-none, CountsCalls-read, CountsCalls-then}
 

@@ -5,7 +5,7 @@ use Rattle.redo_io.specs.{saturating_next}
 use Rattle.redo_disk.specs.declared.error.DevError.TheVariants.{Failed, NoMemory}
 use Rattle.redo_disk.specs.{Answer, error_of, failures}
 use Rattle.redo_memdisk.specs.Counted.{CountsCalls, counted, before_arming, while_stopping, after_crash}
-use Rattle.redo_memdisk.specs.Fuse.{after_call, after_change, after_own, after_passed, fails_next, has_passed_all, is_failed, with_change}
+use Rattle.redo_memdisk.specs.Fused.{after_call, after_change, after_own, after_passed, fails_next, has_passed_all, is_failed, with_change}
 use Rattle.redo_memdisk.specs.declared.fuse.Fuse.{Fuse}
 use Rattle.redo_memdisk.specs.declared.fuse.Stage.{Stage}
 use Rattle.redo_memdisk.specs.declared.fuse.Stage.TheVariants.{Before, Stopping, Crashed}

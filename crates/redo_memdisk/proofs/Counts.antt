@@ -6,7 +6,7 @@ use Rattle.redo_io.specs.{saturating_next}
 use Rattle.redo_disk.specs.declared.error.DevError.{DevError}
 use Rattle.redo_disk.specs.{HasCause}
 use Rattle.redo_memdisk.specs.declared.fuse.Fuse.{Fuse}
-use Rattle.redo_memdisk.specs.Fuse.{after_call, after_change, fails_next, with_change}
+use Rattle.redo_memdisk.specs.Fused.{after_call, after_change, fails_next, with_change}
 use Rattle.redo_memdisk.specs.declared.fuse.Stage.{Stage}
 use Rattle.redo_memdisk.specs.declared.fuse.Stage.TheVariants.{Before, Stopping, Crashed}
 

@@ -1,8 +1,7 @@
 -- What a device in memory means after a call.
 use Rattle.std.proofs.Common.{◌≡◌, ◌++◌, [], ◌∷◌, ℕ, List, length, Option, Some, refl, sym, ap, subst, ◌∙◌, arith}
 use Rattle.std.proofs.lemmas.List.Sums.{fold-append}
-use Rattle.model_device.specs.{after_write, AreSectorWrites, crash_image, crashed, Crashes, FailsWrite, written}
-use Rattle.model_device.specs.Disk.{Disk}
+use Rattle.model_device.specs.{after_write, AreSectorWrites, crash_image, crashed, Crashes, FailsWrite, written, Disk}
 use Rattle.model_device.specs.declared.write.Write.{Write}
 use Rattle.model_device.proofs.CrashParts.{IsImage-crash_image}
 use Rattle.redo_disk.specs.{CrashStep, IsRange, write_at}

@@ -1,13 +1,10 @@
 -- What a device in a file means after each of its calls.
-use Rattle.std.proofs.Common.{ℕ, ◌≡◌, ◌-◌, ◌%◌, Bool, true, false, if◌then◌else◌, List, [], ◌∷◌}
-use Rattle.std.proofs.Common.{length, take, replicate, IfSome, Option, Some, None, IsTrue, refl, sym, ap, subst, ◌∙◌}
-use Rattle.std.proofs.Common.{arith, inr, eq-eqb, length-append, length-take}
+use Rattle.std.proofs.Common.{ℕ, ◌≡◌, ◌-◌, ◌%◌, Bool, true, false, if◌then◌else◌, List, [], ◌∷◌, length, take, replicate, IfSome, Option, Some, None, IsTrue, refl, sym, ap, subst, ◌∙◌, arith, inr, eq-eqb, length-append, length-take}
 use Rattle.std.specs.Prelude.{bytes_eq, option_and_then}
 use Rattle.std.proofs.lemmas.Bool.{and_parts, and_from, eqb-true, leb-true, le-leb, false≢true}
 use Rattle.std.proofs.lemmas.List.{length-replicate}
 use Rattle.model_base.specs.declared.limits.TheConstants.{BLOCK_SIZE}
-use Rattle.model_device.specs.{Crashes, FailsWrite, IsSectorWrite, IsValid, written}
-use Rattle.model_device.specs.Disk.{Disk}
+use Rattle.model_device.specs.{Crashes, FailsWrite, IsSectorWrite, IsValid, written, Disk}
 use Rattle.model_device.specs.declared.write.Write.{Write}
 use Rattle.model_device.proofs.Valid.{IsValid-failed, IsValid-settled, IsValid-synced, IsValid-written}
 use Rattle.redo_disk.specs.{HasSize, IsRange, OnTold, WhereTold, part, write_at}

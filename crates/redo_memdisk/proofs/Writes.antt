@@ -3,8 +3,7 @@ use Rattle.std.proofs.Common.{ℕ, ◌+◌, ◌*◌, ◌≤◌, List, length, le
 use Rattle.std.proofs.lemmas.Bool.{cases_lt}
 use Rattle.model_base.specs.{overwritten}
 use Rattle.model_base.specs.declared.limits.TheConstants.{BLOCK_SIZE}
-use Rattle.model_device.specs.{after_write, FailsWrite, IsSameBeside, IsSectorWrite, written}
-use Rattle.model_device.specs.Disk.{Disk}
+use Rattle.model_device.specs.{after_write, FailsWrite, IsSameBeside, IsSectorWrite, written, Disk}
 use Rattle.model_device.specs.declared.write.Write.{Write}
 use Rattle.model_device.proofs.Images.{sector-after_write}
 use Rattle.model_device.proofs.Overwritten.{length-overwritten, part-overwritten_before, part-overwritten_behind}

@@ -1,15 +1,12 @@
 -- A device that tells after a call told before it.
-use Rattle.std.specs.Prelude.{ℕ, zero, suc, ◌≡◌, ◌≢◌, ◌<◌, ◌++◌, Bool, true, false, List, [], ◌∷◌}
-use Rattle.std.specs.Prelude.{Option, Some, None, Ok, Err, option_and_then}
+use Rattle.std.specs.Prelude.{ℕ, zero, suc, ◌≡◌, ◌≢◌, ◌<◌, ◌++◌, Bool, true, false, List, [], ◌∷◌, Option, Some, None, Ok, Err, option_and_then}
 use Rattle.std.proofs.Common.{refl, sym, ap, subst}
 use native.Mathlib.Nat.{zero-lt-suc}
-use Rattle.model_device.specs.Disk.{Disk}
+use Rattle.model_device.specs.{Disk}
 use Rattle.model_device.specs.declared.write.Write.{Write}
-use Rattle.redo_disk.specs.{Answer, Call, Reads, Syncs, SyncStep, Writes, WriteStep}
-use Rattle.redo_disk.specs.Seen.{OnTold, Seen, StillTells}
+use Rattle.redo_disk.specs.{Answer, Call, Reads, Syncs, SyncStep, Writes, WriteStep, OnTold, Seen, StillTells}
 use Rattle.redo_memdisk.specs.File.{FileGives, file_seen, notes_of, read_event}
-use Rattle.redo_memdisk.specs.Fuse.{fails_next}
-use Rattle.redo_memdisk.specs.Fused.{CallsThrough, ReadsThrough, SyncsThrough, WritesThrough}
+use Rattle.redo_memdisk.specs.Fused.{fails_next, CallsThrough, ReadsThrough, SyncsThrough, WritesThrough}
 use Rattle.redo_memdisk.specs.Memory.{MemGives, MemState, mem_seen}
 use Rattle.redo_memdisk.specs.Notes.{Note, after_event, filled, note, replay}
 use Rattle.redo_memdisk.specs.declared.file.FileDisk.{FileDisk}

@@ -2,10 +2,8 @@
 use Rattle.std.specs.Prelude.{ℕ, zero, suc, ◌≡◌, ◌≢◌, ◌≤◌, ◌<◌, ◌+◌, ◌⊎◌, List, [], ◌∷◌, length, IsTrue, None, IfSome}
 use Rattle.model_base.specs.{HasRisen}
 use Rattle.redo_io.specs.{saturating_next}
-use Rattle.redo_disk.specs.{Call, changing_calls, failed_calls, Reads, Syncs, Writes}
-use Rattle.redo_disk.specs.Seen.{Seen}
-use Rattle.redo_memdisk.specs.Fuse.{after_call, after_change, fails_next, is_failed}
-use Rattle.redo_memdisk.specs.Fused.{armed_at, entry_of}
+use Rattle.redo_disk.specs.{Call, changing_calls, failed_calls, Reads, Syncs, Writes, Seen}
+use Rattle.redo_memdisk.specs.Fused.{after_call, after_change, fails_next, is_failed, armed_at, entry_of}
 use Rattle.redo_memdisk.specs.declared.fuse.Fuse.{Fuse}
 use Rattle.redo_memdisk.specs.declared.fuse.Stage.{Stage}
 use Rattle.redo_memdisk.specs.declared.fuse.Stage.TheVariants.{Before, Stopping, Crashed}

@@ -1,10 +1,9 @@
 -- What a device in a file shows.
 use Rattle.std.specs.Prelude.{true, false, List, ℕ, ◌≡◌, [], ◌∷◌, ◌++◌, Ok, Err}
 use Rattle.redo_io.specs.{saturating_next}
-use Rattle.redo_disk.specs.{Answer, Call, Reads, Syncs, Writes}
+use Rattle.redo_disk.specs.{Answer, Call, Reads, Syncs, Writes, Seen}
 use Rattle.redo_disk.specs.Calls.{device_answer}
 use Rattle.redo_disk.specs.declared.error.DevError.TheVariants.{Failed, NoMemory}
-use Rattle.redo_disk.specs.Seen.{Seen}
 use Rattle.redo_memdisk.specs.Notes.{Note, crash_met, filled, note, replay}
 use Rattle.redo_memdisk.specs.declared.file.Access.{Access}
 use Rattle.redo_memdisk.specs.declared.file.Access.TheVariants.{Writing, Reading}

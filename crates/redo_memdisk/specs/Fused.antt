@@ -1,17 +1,60 @@
+-- A fuse lets so many calls of a device through and fails those after them, from when it is armed to the crash.
 -- What a device with a fuse shows, and what its calls are of the calls of the device behind the fuse: each is passed on,
 -- once and as it is, or the fuse fails it and the device doesn't notice, but for the first such call where that is a
 -- write.
-use Rattle.std.specs.Prelude.{ℕ, ◌≡◌, ◌<◌, ◌+◌, List, length, false, IsTrue, Option, Result, Err}
-use Rattle.std.specs.Option.{option_map, option_and_then}
-use Rattle.model_device.specs.Disk.{Disk}
-use Rattle.model_device.specs.declared.write.Write.{Write}
-use Rattle.redo_disk.specs.{Call, CrashStep, MakesCall, Reads, ReadStep, Syncs, SyncStep, Writes, WriteStep}
-use Rattle.redo_disk.specs.Seen.{Seen}
+use Rattle.std.specs.Prelude.{ℕ, nat_le, Bool, true, false, if◌then◌else◌, Option, Some, None, Result, Ok, Err, ◌≡◌, ◌<◌, ◌+◌, List, length, IsTrue}
+use Rattle.redo_io.specs.{next_count_if, saturating_next}
 use Rattle.redo_disk.specs.declared.error.DevError.{DevError}
-use Rattle.redo_disk.specs.declared.error.DevError.TheVariants.{Failed}
-use Rattle.redo_memdisk.specs.Fuse.{after_call, after_change, crashed_with, fails_next, is_failed}
+use Rattle.redo_disk.specs.declared.error.DevError.TheVariants.{Failed, NoMemory}
 use Rattle.redo_memdisk.specs.declared.fuse.Fuse.{Fuse}
+use Rattle.redo_memdisk.specs.declared.fuse.Stage.{Stage}
+use Rattle.redo_memdisk.specs.declared.fuse.Stage.TheVariants.{Before, Stopping, Crashed}
+use Rattle.std.specs.Option.{option_map, option_and_then}
+use Rattle.model_device.specs.{Disk}
+use Rattle.model_device.specs.declared.write.Write.{Write}
+use Rattle.redo_disk.specs.{Call, MakesCall, Reads, ReadStep, Syncs, SyncStep, Writes, WriteStep, Seen}
 use Rattle.redo_memdisk.specs.declared.fused.Fused.{Fused}
+
+-- the call answered that the device failed
+abbrev pub is_failed : {T : Type 0} → Result T DevError → Bool
+is_failed (Ok value) = false
+is_failed (Err Failed) = true
+is_failed (Err NoMemory) = false
+
+-- a stop at this point has passed as many calls as it is to
+abbrev pub has_passed_all : Stage → Option ℕ → ℕ → Bool
+has_passed_all Before limit passed = false
+has_passed_all Stopping None passed = false
+has_passed_all Stopping (Some limit) passed = nat_le limit passed
+has_passed_all Crashed limit passed = false
+
+-- the fuse fails the next call itself
+abbrev pub fails_next : Fuse → Bool
+fails_next fuse = has_passed_all fuse.stage fuse.limit fuse.passed
+
+-- the fuse after it failed a call itself
+abbrev pub after_own : Fuse → Fuse
+after_own fuse = record fuse { mid = saturating_next fuse.mid; own = saturating_next fuse.own }
+
+-- the fuse after it passed a call on, by whether that answered Failed
+abbrev pub after_passed : Stage → Fuse → Bool → Fuse
+after_passed Before fuse failed = record fuse { early_calls = saturating_next fuse.early_calls; early = next_count_if failed fuse.early }
+after_passed Stopping fuse failed = record fuse { passed = saturating_next fuse.passed; mid = next_count_if failed fuse.mid }
+after_passed Crashed fuse failed = record fuse { late = next_count_if failed fuse.late }
+
+-- the fuse after a call, by whether it answered Failed
+abbrev pub after_call : Fuse → Bool → Fuse
+after_call fuse failed = if fails_next fuse then after_own fuse else after_passed fuse.stage fuse failed
+
+-- a write, a sync or a crash is counted, also by itself where it comes after the crash
+abbrev pub with_change : Stage → Fuse → Fuse
+with_change Before fuse = record fuse { changes = saturating_next fuse.changes }
+with_change Stopping fuse = record fuse { changes = saturating_next fuse.changes }
+with_change Crashed fuse = record fuse { late_changes = saturating_next fuse.late_changes; changes = saturating_next fuse.changes }
+
+-- the fuse after a write or a sync, by whether it answered Failed
+abbrev pub after_change : Fuse → Bool → Fuse
+after_change fuse failed = after_call (with_change fuse.stage fuse) failed
 
 -- the device without the fuse
 abbrev pub inner_of : {D : Type 0} → Fused D → D
@@ -42,7 +85,6 @@ seen_through seen fused = record {
   faults = (seen fused.inner).faults + fused.fuse.own;
 }
 
--- a read through the fuse
 pub record ReadsThrough {D : Type 0} (seen : D → Seen) (gives : D → Call → D → Type 0)
     (old : Fused D) (at : ℕ) (before : List ℕ) (result : Result (Unit {0}) DevError) (out : List ℕ) (new : Fused D) : Type 0 where
   pub passed : fails_next old.fuse ≡ false → MakesCall gives old.inner (Reads at before result out) new.inner
@@ -68,7 +110,6 @@ pub record WritesThrough {D : Type 0} (seen : D → Seen) (gives : D → Call �
   pub same_entry : entry_of new ≡ entry_of old
   pub counts : new.fuse ≡ after_change old.fuse (is_failed result)
 
--- a sync through the fuse
 pub record SyncsThrough {D : Type 0} (seen : D → Seen) (gives : D → Call → D → Type 0)
     (old : Fused D) (result : Result (Unit {0}) DevError) (new : Fused D) : Type 0 where
   pub passed : fails_next old.fuse ≡ false → MakesCall gives old.inner (Syncs result) new.inner
@@ -79,16 +120,7 @@ pub record SyncsThrough {D : Type 0} (seen : D → Seen) (gives : D → Call →
   pub same_entry : entry_of new ≡ entry_of old
   pub counts : new.fuse ≡ after_change old.fuse (is_failed result)
 
--- a call through the fuse
 abbrev pub CallsThrough : {D : Type 0} → (D → Seen) → (D → Call → D → Type 0) → Fused D → Call → Fused D → Type 0
 CallsThrough seen gives old (Reads at before answer after) new = ReadsThrough seen gives old at before answer after new
 CallsThrough seen gives old (Writes write answer) new = WritesThrough seen gives old write answer new
 CallsThrough seen gives old (Syncs answer) new = SyncsThrough seen gives old answer new
-
--- A crash, with the same pick. It ends the stop.
-pub record CrashesThrough {D : Type 0} (seen : D → Seen) (gives : D → ℕ → D → Type 0) (old : Fused D) (pick : ℕ) (new : Fused D) : Type 0 where
-  pub passed : gives old.inner pick new.inner
-  pub passed_step : CrashStep (seen old.inner) (seen new.inner)
-  pub same_armed : armed_at new ≡ armed_at old
-  pub same_entry : entry_of new ≡ entry_of old
-  pub notes : new.fuse ≡ crashed_with pick old.fuse

@@ -1,11 +1,9 @@
 -- A device in memory: what it means, and what its calls do to it.
 use Rattle.std.specs.Prelude.{ℕ, ◌≡◌, if◌then◌else◌, List, length, replicate, Option, Some, None, Result, Ok, Err, OnOk, OnErr}
-use Rattle.model_device.specs.{after_writes, crashed, settled, synced, written}
-use Rattle.model_device.specs.Disk.{Disk}
+use Rattle.model_device.specs.{after_writes, crashed, settled, synced, written, Disk}
 use Rattle.model_device.specs.declared.write.Write.{Write}
 use Rattle.redo_io.specs.{fails_now, plan_after_call, Planned, unused}
-use Rattle.redo_disk.specs.{Call, part, Reads, Syncs, Writes}
-use Rattle.redo_disk.specs.Seen.{Seen}
+use Rattle.redo_disk.specs.{Call, part, Reads, Syncs, Writes, Seen}
 use Rattle.redo_disk.specs.declared.error.DevError.{DevError}
 use Rattle.redo_disk.specs.declared.error.DevError.TheVariants.{Failed, NoMemory}
 

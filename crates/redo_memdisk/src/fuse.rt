@@ -1,8 +1,8 @@
 // The plan of a stop, and what came of it.
 ghost use Rattle.std.specs.Prelude.{◌≡◌, ◌≤◌};
 ghost use Rattle.redo_io.specs.{next_count_if};
-ghost use Rattle.redo_memdisk.specs.Fuse.{after_call, after_change, crashed_with, fails_next, is_failed, with_change};
-ghost use Rattle.redo_memdisk.specs.Arming.{armed, fresh};
+ghost use Rattle.redo_memdisk.specs.Fused.{after_call, after_change, fails_next, is_failed, with_change};
+ghost use Rattle.redo_memdisk.specs.Arming.{crashed_with, armed, fresh};
 
 use redo_disk::DevError;
 

@@ -1,8 +1,8 @@
 // A device that a fuse stops.
 ghost use Rattle.std.specs.Prelude.{◌≡◌, Option, Some, None};
-ghost use Rattle.redo_memdisk.specs.Arming.{armed, fresh};
+ghost use Rattle.redo_memdisk.specs.Arming.{armed, fresh, CrashesThrough};
 ghost use Rattle.redo_memdisk.specs.declared.fuse.Stage.{Stage};
-ghost use Rattle.redo_memdisk.specs.Fused.{CallsThrough, CrashesThrough, armed_at, entry_of, fuse_of, inner_of, seen_through};
+ghost use Rattle.redo_memdisk.specs.Fused.{CallsThrough, armed_at, entry_of, fuse_of, inner_of, seen_through};
 
 use crate::Fuse;
 use crate::cut::cut_write;

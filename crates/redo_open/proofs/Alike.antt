@@ -5,19 +5,17 @@ use Rattle.std.proofs.lemmas.Bool.{cases_Bool}
 use Rattle.std.proofs.lemmas.Result.{on_ok_weaker}
 use Rattle.std.proofs.lemmas.List.{drop-take, take-take}
 use Rattle.model_base.specs.declared.shape.Shape.{Shape}
-use Rattle.model_device.specs.{sector}
-use Rattle.model_device.specs.Disk.{Disk}
+use Rattle.model_device.specs.{sector, Disk}
 use Rattle.model_log.specs.{fits_checksum, head_of, read_head, sector_at}
 use Rattle.model_log.specs.declared.head.Format.{Format}
 use Rattle.model_log.specs.declared.head.Head.TheVariants.{Good, Unformatted}
 use Rattle.model_parts.specs.{IsPut, IsPutting, IsUnsealed, KeepsHead}
 use Rattle.model_parts.proofs.Reread.{same-head_of}
 use Rattle.model_parts.proofs.Unread.{unsealed-head}
-use Rattle.redo_disk.specs.Seen.{Seen}
+use Rattle.redo_disk.specs.{Seen}
 use Rattle.redo_disk.specs.declared.error.DevError.{DevError}
 use Rattle.redo_disk.proofs.Told.{told-as, told-same}
-use Rattle.redo_open.specs.Heads.{AlikeStep, HasAlike, HaveHeads, KeepsHeads}
-use Rattle.redo_open.specs.Put.{HasPut, IsAtRestTo, PutsBlock, PutStep}
+use Rattle.redo_open.specs.Put.{AlikeStep, HasAlike, HaveHeads, KeepsHeads, HasPut, IsAtRestTo, PutsBlock, PutStep}
 use Rattle.redo_open.proofs.Rests.{reads-settled, rests-settled}
 
 -- WHAT WAS READ.

@@ -1,6 +1,6 @@
 -- The calls of both devices, as they end.
 use Rattle.std.proofs.Common.{◌≡◌, ◌∙◌, ℕ, Option, Some, None, Ok, Err, sym, ap, subst, arith, length-append}
-use Rattle.redo_disk.specs.{Call, EndWith, MakesCalls, MayEndWith, ReadsMayEndWith}
+use Rattle.redo_disk.specs.{Call, EndWith, MakesCalls, MayEndWith, ReadsMayEndWith, Seen}
 use Rattle.redo_disk.specs.declared.error.DevError.{DevError}
 use Rattle.redo_disk.specs.declared.error.DevError.TheVariants as device
 use Rattle.redo_disk.proofs.Calls.{MayEndWith-append}
@@ -13,7 +13,6 @@ use Rattle.redo_recover.specs.declared.fault.RecFault.{RecFault}
 use Rattle.redo_recover.specs.declared.fault.RecFault.TheVariants.{DataDev, NoMemory}
 use Rattle.redo_recover.specs.declared.recovered.Recovered.{Recovered}
 use Rattle.redo_store.specs.Part.{Part}
-use Rattle.redo_disk.specs.Seen.{Seen}
 use Rattle.redo_open.specs.Devices.{AreCalled, IsSameDevice}
 
 -- an error of the data device, as its fault

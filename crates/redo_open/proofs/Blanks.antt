@@ -4,13 +4,11 @@ use Rattle.std.proofs.lemmas.Bool.{cases_Bool}
 use Rattle.model_base.specs.{IsWithinLimits}
 use Rattle.model_base.specs.declared.shape.Shape.{Shape}
 use Rattle.model_base.specs.declared.limits.TheConstants.{START_LSN}
-use Rattle.model_device.specs.{sector, settled, synced}
-use Rattle.model_device.specs.Disk.{Disk}
+use Rattle.model_device.specs.{sector, settled, synced, Disk}
 use Rattle.model_log.specs.{checkpoint_text, fits_checksum, head_of, head_text, log_device_length, read_head, run_layout, run_format}
 use Rattle.model_log.specs.declared.layout.TheConstants.{HEADER_BYTES}
 use Rattle.model_page.specs.{data_device_length}
-use Rattle.model_parts.specs.{IsPut, IsPutting, IsUnsealed, KeepsHead, zero_block}
-use Rattle.model_parts.specs.Held.{IsHeadPlace}
+use Rattle.model_parts.specs.{IsPut, IsPutting, IsUnsealed, KeepsHead, zero_block, IsHeadPlace}
 use Rattle.model_parts.proofs.Formatted.{formatted-orderly, IsBegunLog}
 use Rattle.model_parts.proofs.Unread.{zeros-unsealed}
 use Rattle.redo_disk.specs.{HasSize}

@@ -4,14 +4,12 @@ use Rattle.std.specs.Prelude.{IfSome, Result}
 use Rattle.model_base.proofs.ShapeLimits.{sizes_facts}
 use Rattle.model_base.specs.{IsWithinLimits, run_shape}
 use Rattle.model_base.specs.declared.shape.Shape.{Shape}
-use Rattle.model_device.specs.{sector, settled}
-use Rattle.model_device.specs.Disk.{Disk}
+use Rattle.model_device.specs.{sector, settled, Disk}
 use Rattle.model_log.specs.{checkpoint_text, has_sizes_of, header_block, layout_of, log_device_length, newest_checkpoint, place_of}
 use Rattle.model_log.specs.declared.head.Format.{Format}
 use Rattle.model_log.specs.declared.head.Format.TheVariants.{One, Two, Three}
 use Rattle.model_log.specs.declared.layout.Layout.{Layout}
-use Rattle.model_store.specs.{IsFairLog, IsOrderly}
-use Rattle.model_store.specs.Reading.{Reading}
+use Rattle.model_store.specs.{IsFairLog, IsOrderly, Reading}
 use Rattle.model_store.specs.declared.tail.Tail.{Tail}
 use Rattle.model_store.proofs.Heads.{head-sizes}
 use Rattle.model_parts.specs.{found_layout, IsCleared, IsClearing, IsFresh, IsPut, IsPutting, IsUnopened, KeepsOpened, next_number, numbers_taken, start_block, start_of}
@@ -20,15 +18,14 @@ use Rattle.model_parts.proofs.Fresh.{marked-fresh}
 use Rattle.model_parts.proofs.Keeping.{clearing-keeps, marking-keeps}
 use Rattle.model_parts.proofs.Newest.{checkpoint-place}
 use Rattle.model_parts.proofs.Reread.{IsLogRead, log-read, same-head_of, same-newest, tail-read}
-use Rattle.redo_disk.specs.Seen.{Seen}
+use Rattle.redo_disk.specs.{Seen}
 use Rattle.redo_disk.specs.declared.error.DevError.{DevError}
 use Rattle.redo_disk.proofs.Told.{known-as, told-step}
 use Rattle.redo_open.specs.Clear.{ClearsLog, ClearStep, HasClearedLog, ring_end}
-use Rattle.redo_open.specs.Devices.{IsFrom, IsNotOpened, OpensFrom, WhereBothTell}
+use Rattle.redo_open.specs.Devices.{IsFrom, IsNotOpened, OpensFrom, WhereBothTell, IsFreshBy, IsReadyAt, IsReadyLog, shape_by}
 use Rattle.redo_open.specs.Mark.{next_text}
 use Rattle.redo_open.specs.Places.{KeepsPlaces, HoldsPlaces}
 use Rattle.redo_open.specs.Put.{HasPut, IsAtRestTo, PutsBlock, PutStep}
-use Rattle.redo_open.specs.Ready.{IsFreshBy, IsReadyAt, IsReadyLog, shape_by}
 use Rattle.redo_open.proofs.Entry.{still-found}
 use Rattle.redo_open.proofs.Rests.{base-image}
 use Rattle.redo_open.proofs.Sizes.{with_slots}

@@ -3,12 +3,11 @@ use Rattle.std.proofs.Common.{◌≡◌, ℕ, inl, inr, Some, None, Err, refl, s
 use Rattle.std.specs.Prelude.{IsErrOf}
 use Rattle.model_base.specs.{HasRisen}
 use Rattle.model_base.specs.declared.shape.Shape.{Shape}
-use Rattle.redo_disk.specs.{Call, HasCause}
-use Rattle.redo_disk.specs.Seen.{Seen}
+use Rattle.redo_disk.specs.{Call, HasCause, Seen}
 use Rattle.redo_disk.specs.declared.error.DevError.{DevError}
 use Rattle.redo_disk.specs.declared.error.DevError.TheVariants as device
 use Rattle.redo_open.specs.Devices.{IsOpenFault}
-use Rattle.redo_open.specs.Formatting.{FormatCalls, HasFormatCause, JudgesLengths, MakesBoth}
+use Rattle.redo_open.specs.Opening.{FormatCalls, HasFormatCause, JudgesLengths, MakesBoth}
 use Rattle.redo_open.specs.Places.{IsPageFault}
 use Rattle.redo_recover.specs.{data_fault_of, IsLengthFault, log_fault_of}
 use Rattle.redo_recover.specs.declared.fault.RecFault.{RecFault}

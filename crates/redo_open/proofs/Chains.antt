@@ -1,8 +1,7 @@
 -- The links of the way to the format of runs, and the first of them.
 use Rattle.std.proofs.Common.{◌≡◌, ◌≤◌, ◌<◌, ◌+◌, ◌-◌, ◌%◌, ◌^◌, ◌∙◌, ℕ, inl, inr, List, length, Some, None, Ok, Err, refl, sym, ap, subst, ⊎_elim, arith}
 use Rattle.std.specs.Prelude.{Result}
-use Rattle.model_device.specs.{sector, settled}
-use Rattle.model_device.specs.Disk.{Disk}
+use Rattle.model_device.specs.{sector, settled, Disk}
 use Rattle.model_base.specs.{HasRisen, run_shape}
 use Rattle.model_log.specs.{log_device_length, read_head}
 use Rattle.model_log.specs.declared.head.Format.{Format}
@@ -15,19 +14,15 @@ use Rattle.model_parts.proofs.Keeping.{migrating-keeps, ready-keeps}
 use Rattle.model_parts.proofs.Migration.{head-first, migrated-fresh}
 use Rattle.model_parts.proofs.Newest.{checkpoint-place}
 use Rattle.model_parts.proofs.Reread.{IsLogRead, log-read, tail-read}
-use Rattle.model_store.specs.{IsOrderly}
-use Rattle.model_store.specs.Reading.{Reading}
+use Rattle.model_store.specs.{IsOrderly, Reading}
 use Rattle.redo_disk.proofs.Made.{none_may_end, out_of_memory}
-use Rattle.redo_disk.specs.{Call, MakesCalls, MayEndWith}
-use Rattle.redo_disk.specs.Seen.{Seen}
+use Rattle.redo_disk.specs.{Call, MakesCalls, MayEndWith, Seen}
 use Rattle.redo_disk.specs.declared.error.DevError.{DevError}
 use Rattle.redo_disk.proofs.Told.{told-step}
 use Rattle.redo_open.specs.Chain.{formats_after, LinkStep, next_format}
-use Rattle.redo_open.specs.Devices.{IsNotOpened, IsOpenFault, WhereBothTell}
-use Rattle.redo_open.specs.Migrate.{HasMigrated, Migrates, MigrateStep}
+use Rattle.redo_open.specs.Devices.{IsNotOpened, IsOpenFault, WhereBothTell, IsFreshBy, IsMarkedFirst, IsReadyAt}
+use Rattle.redo_open.specs.Put.{HasMigrated, Migrates, MigrateStep, IsAtRestTo}
 use Rattle.redo_open.specs.Places.{HoldsPlaces}
-use Rattle.redo_open.specs.Put.{IsAtRestTo}
-use Rattle.redo_open.specs.Ready.{IsFreshBy, IsMarkedFirst, IsReadyAt}
 use Rattle.redo_open.proofs.Both.{both}
 use Rattle.redo_open.proofs.Causes.{log-cause, log-not_data, log-risen}
 use Rattle.redo_open.proofs.Rests.{reads-settled, rests-settled}

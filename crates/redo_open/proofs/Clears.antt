@@ -4,14 +4,13 @@ use Rattle.std.specs.Prelude.{replicate, Result, Ok, Err}
 use Rattle.std.proofs.lemmas.Bool.{cases_lt}
 use Rattle.std.proofs.lemmas.Result.{on_ok_weaker}
 use Rattle.model_base.specs.declared.limits.TheConstants.{START_LSN}
-use Rattle.model_device.specs.{Covers}
-use Rattle.model_device.specs.Disk.{Disk}
+use Rattle.model_device.specs.{Covers, Disk}
 use Rattle.model_log.specs.{block_of, place_in, round_of, sector_of}
 use Rattle.model_log.specs.declared.layout.Layout.{Layout}
 use Rattle.model_log.proofs.Places.{place-on, sector-place}
 use Rattle.model_parts.specs.{IsOutside, IsPastKept, IsStaleTail}
 use Rattle.model_store.specs.declared.tail.Tail.{Tail}
-use Rattle.redo_disk.specs.Seen.{Seen}
+use Rattle.redo_disk.specs.{Seen}
 use Rattle.redo_disk.specs.declared.error.DevError.{DevError}
 use Rattle.redo_disk.proofs.Told.{OnTold-then, told-as}
 use Rattle.redo_open.specs.Clear.{ClearsLog, ClearStep, HasClearedLog, IsPiece, IsRingTo, MayStart, ring_end}

@@ -8,8 +8,7 @@ use Rattle.std.proofs.lemmas.Bool.{cases_lt}
 use Rattle.model_base.proofs.ShapeLimits.{run_within, whole_sectors}
 use Rattle.model_base.specs.{IsWithinLimits, run_shape}
 use Rattle.model_base.specs.declared.shape.Shape.{Shape}
-use Rattle.model_device.specs.{Covers, FailsWrite, IsCovered, sector, settled, synced, written}
-use Rattle.model_device.specs.Disk.{Disk}
+use Rattle.model_device.specs.{Covers, FailsWrite, IsCovered, sector, settled, synced, written, Disk}
 use Rattle.model_device.specs.declared.write.Write.{Write}
 use Rattle.model_device.proofs.Overwritten.{length-overwritten}
 use Rattle.model_page.specs.{blank_page, data_device_length, IsInPlace, page_check, place_bytes, place_lsn_by, stretch_at, user_part}
@@ -19,8 +18,7 @@ use Rattle.model_parts.proofs.Kept.{same-place}
 use Rattle.model_parts.proofs.Rows.{row-sector, row_ends}
 use Rattle.model_parts.proofs.Stretches.{piece, pieces-apart, pieces-has, stretch-piece}
 use Rattle.model_parts.proofs.Writes.{HasSizes, sizes-from, stretch-apart, stretch-ends, stretch-put}
-use Rattle.redo_disk.specs.{HasCause, HasSize, OnTold, SyncStep, write_at}
-use Rattle.redo_disk.specs.Seen.{Seen}
+use Rattle.redo_disk.specs.{HasCause, HasSize, OnTold, SyncStep, write_at, Seen}
 use Rattle.redo_disk.specs.declared.error.DevError.{DevError}
 use Rattle.redo_disk.proofs.Told.{OnTold-then, OnTold-weaker, told-as, told-same}
 use Rattle.redo_open.specs.Enlarge.{EnlargeStep, HasEnlarged, IsPlaceText, KeepsOld, WritesPlace}

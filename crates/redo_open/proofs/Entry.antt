@@ -2,17 +2,14 @@
 use Rattle.std.proofs.Common.{◌≡◌, ◌≢◌, ◌⊎◌, inl, inr, ℕ, List, Option, Some, None, Err, refl, sym, ap, subst, ⊎_elim}
 use Rattle.std.specs.Prelude.{IfSome}
 use Rattle.model_base.specs.declared.shape.Shape.{Shape}
-use Rattle.model_device.specs.{synced}
-use Rattle.model_device.specs.Disk.{Disk}
+use Rattle.model_device.specs.{synced, Disk}
 use Rattle.model_log.specs.{layout_of, newest_checkpoint, run_layout}
 use Rattle.model_log.specs.declared.head.Format.{Format}
 use Rattle.model_log.specs.declared.head.Format.TheVariants.{One, Two, Three}
 use Rattle.model_parts.specs.{IsAtRest, IsOpenable, IsUnopened, KeepsOpened}
 use Rattle.model_parts.proofs.Keeping.{openable-keeps}
-use Rattle.model_store.specs.{IsOrderly}
-use Rattle.model_store.specs.Reading.{Reading}
-use Rattle.redo_disk.specs.{OnTold, StillTells, WhereTold}
-use Rattle.redo_disk.specs.Seen.{Seen}
+use Rattle.model_store.specs.{IsOrderly, Reading}
+use Rattle.redo_disk.specs.{OnTold, StillTells, WhereTold, Seen}
 use Rattle.redo_disk.proofs.Told.{known-as, where-still, where-then, where-told}
 use Rattle.redo_open.specs.Devices.{IsNotOpened, WhereBothTell}
 use Rattle.redo_open.specs.Opening.{IsSyncedSince, OpenResult, OpensSafely, data_device_left, log_device_left}

@@ -3,8 +3,7 @@ use Rattle.std.proofs.Common.{◌≡◌, ◌≤◌, ◌+◌, ◌-◌, ◌*◌, �
 use Rattle.std.specs.Prelude.{replicate}
 use Rattle.std.proofs.lemmas.List.{take-replicate, drop-replicate}
 use Rattle.std.proofs.lemmas.Bool.{cases_lt}
-use Rattle.model_device.specs.{AreSectorWrites, Covers, FailsWrite, IsCovered, IsSectorWrite, sector, synced, written, written_sector}
-use Rattle.model_device.specs.Disk.{Disk}
+use Rattle.model_device.specs.{AreSectorWrites, Covers, FailsWrite, IsCovered, IsSectorWrite, sector, synced, written, written_sector, Disk}
 use Rattle.model_device.specs.declared.write.Write.{Write}
 use Rattle.model_device.proofs.Images.{sector-after_write}
 use Rattle.model_device.proofs.Overwritten.{length-overwritten, part-overwritten_inside}

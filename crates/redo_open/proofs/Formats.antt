@@ -2,8 +2,7 @@
 use Rattle.std.proofs.Common.{◌≡◌, ℕ, inl, inr, List, Option, Some, None, refl, sym, subst, ◌∙◌, ⊎_elim}
 use Rattle.std.specs.Prelude.{IfSome}
 use Rattle.model_base.specs.declared.shape.Shape.{Shape}
-use Rattle.model_device.specs.{IsImage}
-use Rattle.model_device.specs.Disk.{Disk}
+use Rattle.model_device.specs.{IsImage, Disk}
 use Rattle.model_parts.specs.{IsFormatted, IsFormattedData, IsFormattedLog, KeepsNoStore}
 use Rattle.model_parts.proofs.Formatted.{unsealed-refused}
 use Rattle.model_store.specs.{Refuses}

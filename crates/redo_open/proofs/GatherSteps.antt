@@ -5,13 +5,12 @@ use Rattle.model_base.specs.declared.shape.Shape.{Shape}
 use Rattle.model_parts.specs.{after_batch, batch_of, Fresh, IsLater, IsUpTo, Keeps}
 use Rattle.model_parts.specs.Stored.{Stored}
 use Rattle.model_page.specs.declared.content.Content.{Content}
-use Rattle.redo_disk.specs.Seen.{Seen}
+use Rattle.redo_disk.specs.{Seen}
 use Rattle.redo_disk.specs.declared.error.DevError.{DevError}
 use Rattle.redo_open.proofs.Gathers.{AreTopPages, added, fresh, gathered-added, gathered-done, gathered-keeps, gathered-steady, gathered-top, gathered-with, gathered-written, top-later}
 use Rattle.redo_open.proofs.Told.{cause-since}
 use Rattle.redo_open.proofs.Writings.{PageRead, live-ok, on-ok-both}
-use Rattle.redo_open.specs.Gather.{AreGathered, Gathered, GatherStep, IsGatheredTo}
-use Rattle.redo_open.specs.Rewrite.{AreTop, IsWrittenTo, RewriteStep}
+use Rattle.redo_open.specs.Rewrite.{AreGathered, Gathered, GatherStep, IsGatheredTo, AreTop, IsWrittenTo, RewriteStep}
 use Rattle.redo_recover.specs.declared.places.Found.{Found}
 use Rattle.redo_store.specs.{PartKeeps, PartStep, PartStores}
 use Rattle.redo_store.specs.Part.{Part}

@@ -13,13 +13,12 @@ use Rattle.model_parts.proofs.Joined.{IsPairAt, batch-at, nth_user, pair-at}
 use Rattle.model_parts.proofs.Rows.{one-more-row, row_ends}
 use Rattle.model_parts.specs.{after_batch, batch_of, Fresh, IsLater, IsNew, IsUpTo, IsWritable, Keeps}
 use Rattle.model_parts.specs.Stored.{Stored}
-use Rattle.model_device.specs.Disk.{Disk}
+use Rattle.model_device.specs.{Disk}
 use Rattle.model_page.proofs.Kept.{same_content}
 use Rattle.model_page.specs.declared.content.Content.{Content}
 use Rattle.redo_disk.proofs.Told.{known-as}
 use Rattle.redo_open.proofs.Writings.{below-next}
-use Rattle.redo_open.specs.Gather.{AreGathered, Gathered, IsBatchedPage, IsGatheredTo}
-use Rattle.redo_open.specs.Rewrite.{AreTop, IsWrittenTo, KeepsWritten}
+use Rattle.redo_open.specs.Rewrite.{AreGathered, Gathered, IsBatchedPage, IsGatheredTo, AreTop, IsWrittenTo, KeepsWritten}
 use Rattle.redo_recover.specs.declared.places.Found.{Found}
 
 -- LISTS WITH ONE MORE AT THE END.

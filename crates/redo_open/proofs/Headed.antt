@@ -1,24 +1,21 @@
 -- A store that is opened, from what its devices told at first to where its two header blocks are alike.
 use Rattle.std.proofs.Common.{◌≡◌, ℕ, List, length, Option, Some, None, Ok, Err, refl, sym, ap, subst, ◌∙◌, arith}
 use Rattle.std.specs.Prelude.{IfSome}
-use Rattle.model_device.specs.{settled, synced}
-use Rattle.model_device.specs.Disk.{Disk}
+use Rattle.model_device.specs.{settled, synced, Disk}
 use Rattle.model_log.specs.{newest_checkpoint}
 use Rattle.model_log.proofs.Several.{one_group}
 use Rattle.model_parts.specs.{found_layout, IsRewriting, IsUnopened, KeepsHead, KeepsOpened}
 use Rattle.model_parts.proofs.Alike.{kept-found, kept-orderly}
 use Rattle.model_parts.proofs.Keeping.{kept-head_keeps}
 use Rattle.model_parts.proofs.Reread.{IsLogRead, log-read, same-newest}
-use Rattle.model_store.specs.{AreFoundIn, IsFair, IsOrderly, IsReading}
-use Rattle.model_store.specs.Reading.{Reading}
+use Rattle.model_store.specs.{AreFoundIn, IsFair, IsOrderly, IsReading, Reading}
 use Rattle.model_store.specs.declared.tail.Tail.{Tail}
 use Rattle.model_store.proofs.OneReading.{same_reading}
-use Rattle.redo_disk.specs.{OnTold, part}
-use Rattle.redo_disk.specs.Seen.{Seen}
+use Rattle.redo_disk.specs.{OnTold, part, Seen}
 use Rattle.redo_disk.specs.declared.error.DevError.{DevError}
 use Rattle.redo_disk.proofs.Told.{known-as}
 use Rattle.redo_open.specs.Devices.{IsFrom, IsNotOpened, OpensFrom, WhereBothTell}
-use Rattle.redo_open.specs.Heads.{AlikeStep, HasAlike, HaveHeads, KeepsHeads}
+use Rattle.redo_open.specs.Put.{AlikeStep, HasAlike, HaveHeads, KeepsHeads}
 use Rattle.redo_open.specs.Mend.{IsSettledData}
 use Rattle.redo_open.proofs.Both.{base-fair, both}
 use Rattle.redo_open.proofs.Entry.{still-found}

@@ -4,14 +4,12 @@ use Rattle.std.specs.Prelude.{IfOk}
 use Rattle.std.proofs.Math.Nat.{mul-le-mul_right}
 use Rattle.model_base.specs.{IsWithinLimits, run_shape}
 use Rattle.model_base.specs.declared.shape.Shape.{Shape}
-use Rattle.model_device.specs.{IsWithin}
+use Rattle.model_device.specs.{IsWithin, Disk}
 use Rattle.model_page.specs.{data_device_length}
-use Rattle.model_device.specs.Disk.{Disk}
 use Rattle.model_device.specs.declared.write.Write.{Write}
 use Rattle.model_log.proofs.Several.{one_group}
 use Rattle.model_store.proofs.OneReading.{same_reading}
-use Rattle.model_store.specs.{IsReading}
-use Rattle.model_store.specs.Reading.{Reading}
+use Rattle.model_store.specs.{IsReading, Reading}
 use Rattle.redo_disk.proofs.Made.{joined_calls, weaker_calls}
 use Rattle.redo_disk.specs.{AreReads, Call, EndWith, MakesCalls, ReadsMayEndWith}
 use Rattle.redo_disk.specs.declared.error.DevError.{DevError}
@@ -19,8 +17,7 @@ use Rattle.redo_open.proofs.Erases.{zeros_write}
 use Rattle.redo_open.proofs.Puts.{put-weaker, puts-append}
 use Rattle.redo_open.proofs.Rows.{length-zeros}
 use Rattle.redo_logdev.specs.Part.{Part as Log}
-use Rattle.redo_open.specs.Formatting.{WritesInside}
-use Rattle.redo_open.specs.Opening.{OpenResult, IsOpenedAs, IsStarted, OpensInside, ReadsThenWrites, log_device_left, data_device_left, WhereStillTold}
+use Rattle.redo_open.specs.Opening.{WritesInside, OpenResult, IsOpenedAs, IsStarted, OpensInside, ReadsThenWrites, log_device_left, data_device_left, WhereStillTold}
 use Rattle.redo_open.specs.Puts.{ArePuts, PutsWhere}
 use Rattle.redo_recover.specs.{OnContents, ReadsLog}
 use Rattle.redo_recover.specs.declared.fault.RecFault.{RecFault}

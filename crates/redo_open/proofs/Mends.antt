@@ -2,8 +2,7 @@
 use Rattle.std.proofs.Common.{◌≡◌, ◌≢◌, ◌<◌, ◌⊎◌, ℕ, suc, inl, inr, List, None, refl, sym, subst, ap, ◌∙◌, ⊎_elim, arith}
 use Rattle.std.proofs.lemmas.Bool.{cases_lt}
 use Rattle.model_base.specs.declared.shape.Shape.{Shape}
-use Rattle.model_device.specs.{IsImage, settled}
-use Rattle.model_device.specs.Disk.{Disk}
+use Rattle.model_device.specs.{IsImage, settled, Disk}
 use Rattle.model_device.proofs.Images.{settled_images}
 use Rattle.model_page.specs.{place_lsn, slot_bytes}
 use Rattle.model_parts.specs.{IsRepaired, KeepsAll, KeepsSame}

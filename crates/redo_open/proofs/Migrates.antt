@@ -2,20 +2,17 @@
 use Rattle.std.proofs.Common.{◌≡◌, ◌≤◌, ◌+◌, ◌*◌, ℕ, inl, inr, List, length, sym, ap, subst, ◌∙◌, ⊎_elim, arith}
 use Rattle.std.specs.Prelude.{Result, Ok, Err}
 use Rattle.model_base.specs.declared.shape.Shape.{Shape}
-use Rattle.model_device.specs.{sector, settled}
-use Rattle.model_device.specs.Disk.{Disk}
+use Rattle.model_device.specs.{sector, settled, Disk}
 use Rattle.model_log.specs.{checkpoint_text, fits_checksum, head_text, log_device_length, place_of, run_layout, run_format}
 use Rattle.model_parts.specs.{IsErased, IsErasing, IsLogSector, IsMigrated, IsMigrating, IsNearlyMigrated, IsPut, IsPutting}
 use Rattle.model_parts.proofs.Newest.{checkpoint-place}
 use Rattle.model_parts.proofs.Unread.{zeros-unsealed}
 use Rattle.model_store.specs.{IsFairLog}
-use Rattle.redo_disk.specs.{HasCause, OnTold}
-use Rattle.redo_disk.specs.Seen.{Seen}
+use Rattle.redo_disk.specs.{HasCause, OnTold, Seen}
 use Rattle.redo_disk.specs.declared.error.DevError.{DevError}
 use Rattle.redo_disk.proofs.Told.{OnTold-then, told-as}
 use Rattle.redo_open.specs.Erase.{ErasesIn, HasZeros, IsIn, Reaches}
-use Rattle.redo_open.specs.Migrate.{HasMigrated, Migrates, MigrateStep}
-use Rattle.redo_open.specs.Put.{HasPut, IsAtRestTo, PutsBlock, PutStep}
+use Rattle.redo_open.specs.Put.{HasMigrated, Migrates, MigrateStep, HasPut, IsAtRestTo, PutsBlock, PutStep}
 use Rattle.redo_open.proofs.Rests.{base-image, reads-settled, rests-settled}
 use Rattle.redo_open.proofs.Told.{cause-since}
 

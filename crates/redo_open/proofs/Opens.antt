@@ -9,15 +9,13 @@ use Rattle.model_parts.specs.{AreHeld, AreRepaired, Fresh, ImageHolds, IsNew, Is
 use Rattle.model_parts.specs.Stored.{Stored}
 use Rattle.model_parts.proofs.Orderly.{orderly-opened}
 use Rattle.model_parts.proofs.Parts.{opened-stored}
-use Rattle.model_device.specs.{settled}
-use Rattle.model_device.specs.Disk.{Disk}
+use Rattle.model_device.specs.{settled, Disk}
 use Rattle.model_parts.proofs.Mended.{repaired-orderly, held_at, repaired-held}
 use Rattle.model_parts.proofs.Pages.{read-page, repairing-image, writing-image}
 use Rattle.model_page.proofs.Kept.{same_kept}
 use Rattle.model_page.specs.{IsInPlace, IsKept}
 use Rattle.model_page.specs.declared.content.Content.{Content}
-use Rattle.model_store.specs.{IsOrderly}
-use Rattle.model_store.specs.Reading.{Reading}
+use Rattle.model_store.specs.{IsOrderly, Reading}
 use Rattle.redo_disk.proofs.Told.{known-as}
 use Rattle.redo_disk.specs.{OnTold}
 use Rattle.redo_open.proofs.Mends.{settled-keeps}

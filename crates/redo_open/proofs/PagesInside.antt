@@ -14,7 +14,7 @@ use Rattle.redo_disk.specs.{Call, MakesCalls, Serve, ToSync, ToWrite}
 use Rattle.redo_disk.specs.declared.error.DevError.{DevError}
 use Rattle.redo_open.proofs.Puts.{IsToPut, served}
 use Rattle.redo_open.specs.Puts.{PutsWhere}
-use Rattle.redo_store.specs.Requests.{batch_requests}
+use Rattle.redo_store.specs.Part.{batch_requests}
 
 -- a place lies after the slots, among the places
 place-inside : (shape : Shape) (page count : ℕ) → page < shape.pages → count ≡ shape.page_size

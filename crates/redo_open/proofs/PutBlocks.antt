@@ -1,8 +1,7 @@
 -- Putting one block of a log device that is at rest.
 use Rattle.std.proofs.Common.{◌≡◌, ◌≤◌, ◌-◌, ◌*◌, ◌⊎◌, ℕ, inl, inr, List, length, take, drop, refl, sym, ap, subst, ◌∙◌, ⊎_elim, arith}
 use Rattle.std.proofs.lemmas.List.{take_all}
-use Rattle.model_device.specs.{Covers, IsPutOrNot, IsSectorWrite, sector, synced, written, written_sector}
-use Rattle.model_device.specs.Disk.{Disk}
+use Rattle.model_device.specs.{Covers, IsPutOrNot, IsSectorWrite, sector, synced, written, written_sector, Disk}
 use Rattle.model_device.specs.declared.write.Write.{Write}
 use Rattle.model_device.proofs.Images.{sector-after_write}
 use Rattle.model_device.proofs.Overwritten.{length-overwritten, part-overwritten_inside}

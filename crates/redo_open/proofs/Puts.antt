@@ -16,7 +16,7 @@ puts-append IsSuch (call ∷ xs) ys front back = (front.0, puts-append IsSuch xs
 
 -- no call
 pub put_nothing : {D : Type 0} {IsSuch : Write → Type 0} (gives : D → Call → D → Type 0) (dev : D) → MakesCalls gives dev dev (PutsWhere IsSuch None)
-put_nothing {IsSuch = IsSuch} gives dev = no_calls gives dev (PutsWhere IsSuch None) (record { puts = tt; ends = record { stop = tt; first = refl } })
+put_nothing {IsSuch = IsSuch} gives dev = no_calls gives dev (PutsWhere IsSuch None) (record { puts = tt; ends = refl })
 
 -- one call
 pub put_one : {D : Type 0} {gives : D → Call → D → Type 0} {old new : D} {IsSuch : Write → Type 0} {call : Call} → IsWriteOrSync IsSuch call → MakesCall gives old call new

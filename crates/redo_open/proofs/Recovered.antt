@@ -7,8 +7,7 @@ use Rattle.model_base.proofs.ShapeLimits.{run_within}
 use Rattle.model_base.specs.{HasRisen, IsWithinLimits, run_shape}
 use Rattle.model_base.specs.declared.shape.Shape.{Shape}
 use Rattle.model_base.specs.declared.limits.TheConstants.{START_LSN}
-use Rattle.model_device.specs.{settled}
-use Rattle.model_device.specs.Disk.{Disk}
+use Rattle.model_device.specs.{settled, Disk}
 use Rattle.model_log.specs.{IsAtDataStart, layout_of, round_of, start_after}
 use Rattle.model_parts.specs.{first_marks, first_tails, IsOpenable, IsReady, KeepsOpened, numbers_taken}
 use Rattle.model_parts.proofs.Keeping.{openable-keeps}
@@ -18,12 +17,11 @@ use Rattle.model_log.specs.declared.head.Format.{Format}
 use Rattle.model_log.specs.declared.head.Format.TheVariants.{One, Two, Three}
 use Rattle.model_log.specs.declared.layout.Layout.{Layout}
 use Rattle.model_log.proofs.Layouts.{is_layout_of}
-use Rattle.model_store.specs.{IsOrderly}
-use Rattle.model_store.specs.Reading.{Reading}
+use Rattle.model_store.specs.{IsOrderly, Reading}
 use Rattle.model_store.specs.declared.tail.Tail.{Tail}
 use Rattle.model_store.proofs.Ending.{StartsBehind, starts-behind}
 use Rattle.redo_apply.specs.{ArePagesOf}
-use Rattle.redo_disk.specs.Seen.{Seen}
+use Rattle.redo_disk.specs.{Seen}
 use Rattle.redo_logdev.specs.Part.{Part as Log}
 use Rattle.redo_open.specs.Clear.{MayStart}
 use Rattle.redo_open.specs.Devices.{DevicesStep, IsFrom, IsNotOpened, IsOpenFault, OpensFrom, WhereBothTell}

@@ -3,13 +3,11 @@ use Rattle.std.proofs.Common.{◌≡◌, ◌≤◌, ◌+◌, ◌*◌, ◌⊎◌,
 use Rattle.std.proofs.lemmas.Bool.{cases_lt}
 use Rattle.std.proofs.lemmas.List.{drop_all, length-replicate}
 use Rattle.std.proofs.lemmas.List.Elements.{All-head, All-nil, All-tail}
-use Rattle.model_device.specs.{AreSectorWrites, Covers, IsCovered, IsImage, IsSectorWrite, sector, settled}
-use Rattle.model_device.specs.Disk.{Disk}
+use Rattle.model_device.specs.{AreSectorWrites, Covers, IsCovered, IsImage, IsSectorWrite, sector, settled, Disk}
 use Rattle.model_device.specs.declared.write.Write.{Write}
 use Rattle.model_device.proofs.Images.{IsCovered-written_by, settled_images}
 use Rattle.model_device.proofs.MayHold.{covered-stands}
-use Rattle.model_parts.specs.{IsAtRest}
-use Rattle.model_parts.specs.Held.{MayStand}
+use Rattle.model_parts.specs.{IsAtRest, MayStand}
 use Rattle.model_parts.proofs.Torn.{AddsTorn, IsWhole, stands-sector}
 use Rattle.model_store.specs.{IsFairLog}
 

@@ -2,7 +2,7 @@
 use Rattle.std.proofs.Common.{◌≡◌, ◌≤◌, ℕ, List, length, take, refl, ap, ◌∙◌}
 use Rattle.std.specs.Prelude.{replicate}
 use Rattle.std.proofs.lemmas.List.{take-replicate, length-replicate}
-use Rattle.redo_open.specs.Zeros.{zeros}
+use Rattle.redo_open.specs.Zeroing.{zeros}
 
 pub zeros-is : (count : ℕ) → zeros count ≡ replicate count 0
 unfolding zeros

@@ -3,12 +3,11 @@ use Rattle.std.proofs.Common.{◌≡◌, ◌<◌, ℕ, inl, inr, List, length, a
 use Rattle.std.specs.Prelude.{Result, Ok, Err}
 use Rattle.model_base.specs.{run_shape}
 use Rattle.model_base.specs.declared.shape.Shape.{Shape}
-use Rattle.model_device.specs.{IsWithin, sector}
-use Rattle.model_device.specs.Disk.{Disk}
+use Rattle.model_device.specs.{IsWithin, sector, Disk}
 use Rattle.model_log.specs.{head_text, run_format}
 use Rattle.model_log.specs.declared.layout.TheConstants.{HEADER_BYTES}
 use Rattle.model_parts.specs.{IsHeaded, IsHeading, IsPut, IsPutting, run_head}
-use Rattle.redo_disk.specs.Seen.{Seen}
+use Rattle.redo_disk.specs.{Seen}
 use Rattle.redo_disk.specs.declared.error.DevError.{DevError}
 use Rattle.redo_disk.proofs.Told.{told-as}
 use Rattle.redo_open.specs.Enlarge.{HasRunHeads, HeadStep, PutsRunHeads}

@@ -3,8 +3,7 @@ use Rattle.std.proofs.Common.{◌≡◌, ◌+◌, ◌==◌, ◌∙◌, ℕ, inl,
 use Rattle.std.specs.Prelude.{IfSome, Result}
 use Rattle.model_base.specs.{IsEarly, IsWithinLimits, run_shape}
 use Rattle.model_base.specs.declared.shape.Shape.{Shape}
-use Rattle.model_device.specs.{sector, settled}
-use Rattle.model_device.specs.Disk.{Disk}
+use Rattle.model_device.specs.{sector, settled, Disk}
 use Rattle.model_log.specs.{read_head, run_format}
 use Rattle.model_log.specs.declared.head.Format.TheVariants.{Two, Three}
 use Rattle.model_page.specs.declared.content.Content.{Content}
@@ -13,15 +12,14 @@ use Rattle.model_parts.proofs.Enlarging.{enlarged-stored, enlarging-keeps}
 use Rattle.model_parts.proofs.Heading.{headed-fresh, heading-keeps}
 use Rattle.model_parts.proofs.Keeping.{ready-keeps}
 use Rattle.model_parts.proofs.Migration.{head-first}
-use Rattle.model_store.specs.Reading.{Reading}
-use Rattle.redo_disk.specs.Seen.{Seen}
+use Rattle.model_store.specs.{Reading}
+use Rattle.redo_disk.specs.{Seen}
 use Rattle.redo_disk.specs.declared.error.DevError.{DevError}
 use Rattle.redo_disk.proofs.Told.{known-as, told-step}
-use Rattle.redo_open.specs.Devices.{IsNotOpened, WhereBothTell}
+use Rattle.redo_open.specs.Devices.{IsNotOpened, WhereBothTell, IsFreshBy, IsReadyAt}
 use Rattle.redo_open.specs.Enlarge.{EnlargeStep, HasEnlarged, HasRunHeads, HeadStep, KeepsOld, PutsRunHeads}
 use Rattle.redo_open.specs.Places.{HoldsPlaces}
 use Rattle.redo_open.specs.Put.{IsAtRestTo}
-use Rattle.redo_open.specs.Ready.{IsFreshBy, IsReadyAt}
 use Rattle.redo_open.proofs.Both.{both}
 use Rattle.redo_open.proofs.Rests.{settled-rests}
 

@@ -8,7 +8,7 @@ use Rattle.model_parts.proofs.Kept.{same-place_lsn}
 use Rattle.model_parts.proofs.Repairs.{same-best}
 use Rattle.model_parts.proofs.Rows.{row_ends}
 use Rattle.model_parts.specs.{SameSlots}
-use Rattle.model_device.specs.Disk.{Disk}
+use Rattle.model_device.specs.{Disk}
 use Rattle.model_page.specs.{IsBestCopy, place_bytes, place_lsn, slot_bytes}
 use Rattle.model_page.specs.declared.content.Content.{Content}
 use Rattle.redo_open.specs.Mend.{AreMended, IsSettledData, StandFrom}

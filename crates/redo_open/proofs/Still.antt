@@ -1,10 +1,8 @@
 -- Devices that still tell in the end: what they told before.
 use Rattle.std.proofs.Common.{◌≡◌, ◌≢◌, ◌∙◌, ℕ, List, [], ◌∷◌, Option, Some, None, refl, sym, subst}
-use Rattle.model_device.specs.Disk.{Disk}
-use Rattle.model_store.specs.{IsReading}
-use Rattle.model_store.specs.Reading.{Reading}
-use Rattle.redo_disk.specs.{Call, Makes, OnTold, StillTells}
-use Rattle.redo_disk.specs.Seen.{Seen}
+use Rattle.model_device.specs.{Disk}
+use Rattle.model_store.specs.{IsReading, Reading}
+use Rattle.redo_disk.specs.{Call, Makes, OnTold, StillTells, Seen}
 use Rattle.redo_recover.specs.{OnContents}
 use Rattle.redo_recover.specs.Devices.{OnContent}
 

@@ -3,20 +3,17 @@ use Rattle.std.proofs.Common.{◌≡◌, ◌∙◌, ◌≤◌, ◌<◌, ℕ, inl
 use Rattle.std.specs.Prelude.{IfErr, IfOk, IfSome}
 use Rattle.model_base.specs.{HasRisen, run_shape}
 use Rattle.model_base.specs.declared.shape.Shape.{Shape}
-use Rattle.model_device.specs.{settled, synced}
-use Rattle.model_device.specs.Disk.{Disk}
+use Rattle.model_device.specs.{settled, synced, Disk}
 use Rattle.model_parts.specs.{KeepsOpened}
 use Rattle.model_log.specs.{log_device_length}
 use Rattle.model_page.specs.{data_device_length}
 use Rattle.model_log.proofs.Several.{one_group}
-use Rattle.model_store.specs.{IsOrderly, IsReading, Refuses, RefusesToOpen}
-use Rattle.model_store.specs.Reading.{Reading}
+use Rattle.model_store.specs.{IsOrderly, IsReading, Refuses, RefusesToOpen, Reading}
 use Rattle.model_store.specs.declared.refusal.Refusal.{Refusal}
 use Rattle.model_store.specs.declared.refusal.Refusal.TheVariants as refusal
 use Rattle.model_store.proofs.OneReading.{same_reading}
 use Rattle.model_store.proofs.OneAnswer.{read-not_refused}
-use Rattle.redo_disk.specs.{HasCause, HasSize, OnTold}
-use Rattle.redo_disk.specs.Seen.{Seen}
+use Rattle.redo_disk.specs.{HasCause, HasSize, OnTold, Seen}
 use Rattle.redo_disk.specs.declared.error.DevError.{DevError}
 use Rattle.redo_disk.specs.declared.error.DevError.TheVariants as device
 use Rattle.redo_open.specs.Devices.{IsNotOpened, IsOpenFault, IsSameDevice, WhereBothTell}

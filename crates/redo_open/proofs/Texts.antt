@@ -16,7 +16,7 @@ use Rattle.model_parts.proofs.Zeros.{zeros-opened}
 use Rattle.redo_open.proofs.Pieces.{zeros-piece}
 use Rattle.redo_open.proofs.Rows.{length-zeros, zeros-is}
 use Rattle.redo_open.specs.Enlarge.{IsPlaceText}
-use Rattle.redo_open.specs.Zeros.{zeros}
+use Rattle.redo_open.specs.Zeroing.{zeros}
 
 -- A PAGE THAT WAS NEVER WRITTEN.
 

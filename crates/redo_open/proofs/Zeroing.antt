@@ -4,18 +4,15 @@ use Rattle.std.specs.Prelude.{replicate, Result, Ok, Err}
 use Rattle.std.proofs.lemmas.Bool.{cases_lt}
 use Rattle.std.proofs.lemmas.List.{drop-replicate, drop_all, take-replicate}
 use Rattle.std.proofs.lemmas.Result.{on_ok_weaker}
-use Rattle.model_device.specs.{after_write, Covers, FailsWrite, IsSectorWrite, IsWithin, sector, synced, written, written_sector}
-use Rattle.model_device.specs.Disk.{Disk}
+use Rattle.model_device.specs.{after_write, Covers, FailsWrite, IsSectorWrite, IsWithin, sector, synced, written, written_sector, Disk}
 use Rattle.model_device.specs.declared.write.Write.{Write}
 use Rattle.model_device.proofs.Images.{sector-after_write}
 use Rattle.model_device.proofs.Overwritten.{length-overwritten, part-overwritten_inside}
 use Rattle.model_log.specs.{fits_checksum}
-use Rattle.model_parts.specs.{IsErasing, IsUnsealed, zero_block}
-use Rattle.model_parts.specs.Held.{MayStand}
+use Rattle.model_parts.specs.{IsErasing, IsUnsealed, zero_block, MayStand}
 use Rattle.model_parts.proofs.Torn.{adds-torn, AddsTorn, fails-torn, IsWhole, stands-sector}
 use Rattle.model_parts.proofs.Unread.{zeros-unsealed}
-use Rattle.redo_disk.specs.{IsRange, SyncStep, write_at, WriteStep}
-use Rattle.redo_disk.specs.Seen.{Seen}
+use Rattle.redo_disk.specs.{IsRange, SyncStep, write_at, WriteStep, Seen}
 use Rattle.redo_disk.specs.declared.error.DevError.{DevError}
 use Rattle.redo_disk.proofs.Told.{OnTold-then, told-as, told-same}
 use Rattle.redo_open.specs.Put.{IsAtRestTo}

@@ -4,10 +4,9 @@ use Rattle.model_base.specs.{HasRisen}
 use Rattle.model_log.specs.declared.head.Format.{Format}
 use Rattle.model_log.specs.declared.head.Format.TheVariants.{One, Two, Three}
 use Rattle.model_parts.specs.{KeepsOpened}
-use Rattle.model_store.specs.Reading.{Reading}
-use Rattle.redo_disk.specs.Seen.{Seen}
-use Rattle.redo_open.specs.Devices.{IsNotOpened, IsOpenFault, WhereBothTell}
-use Rattle.redo_open.specs.Ready.{IsReadyAt}
+use Rattle.model_store.specs.{Reading}
+use Rattle.redo_disk.specs.{Seen}
+use Rattle.redo_open.specs.Devices.{IsNotOpened, IsOpenFault, WhereBothTell, IsReadyAt}
 use Rattle.redo_recover.specs.declared.fault.RecFault.{RecFault}
 use Rattle.redo_recover.specs.declared.fault.RecFault.TheVariants.{LogDev, DataDev}
 

@@ -1,15 +1,14 @@
 -- The log device while its blocks outside the kept range are cleared away, piece by piece.
 use Rattle.std.specs.Prelude.{ℕ, ◌≡◌, ◌≤◌, ◌<◌, ◌+◌, ◌*◌, ◌%◌, List, Option, Result, OnOk}
 use Rattle.model_base.specs.declared.limits.TheConstants.{BLOCK_SIZE, START_LSN, LSN_LIMIT}
-use Rattle.model_device.specs.Disk.{Disk}
+use Rattle.model_device.specs.{Disk}
 use Rattle.model_log.specs.{block_of, IsAtDataStart, IsLayout, IsTailPlace, place_in, ring_start, round_of, sector_of}
 use Rattle.model_log.specs.declared.layout.Layout.{Layout}
 use Rattle.model_log.specs.declared.layout.TheConstants.{BLOCK_HEADER, HEADER_BLOCKS, TAIL_BLOCKS}
 use Rattle.model_parts.specs.{IsAtRest, IsCleared, IsClearing, IsOutside}
 use Rattle.model_store.specs.{IsFairLog, IsTakenTail}
 use Rattle.model_store.specs.declared.tail.Tail.{Tail}
-use Rattle.redo_disk.specs.{HasCause, OnTold}
-use Rattle.redo_disk.specs.Seen.{Seen}
+use Rattle.redo_disk.specs.{HasCause, OnTold, Seen}
 use Rattle.redo_disk.specs.declared.error.DevError.{DevError}
 use Rattle.redo_open.specs.Put.{IsAtRestTo}
 

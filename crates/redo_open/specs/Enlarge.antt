@@ -3,14 +3,12 @@ use Rattle.std.specs.Prelude.{ℕ, ◌≡◌, ◌≤◌, List, length, Some, Res
 use Rattle.std.specs.List.{slice_index_or as get_or}
 use Rattle.model_base.specs.{run_shape}
 use Rattle.model_base.specs.declared.shape.Shape.{Shape}
-use Rattle.model_device.specs.{IsImage, sector, settled}
-use Rattle.model_device.specs.Disk.{Disk}
+use Rattle.model_device.specs.{IsImage, sector, settled, Disk}
 use Rattle.model_page.specs.{blank_page, data_device_length, page_check, place_lsn_by, user_part}
 use Rattle.model_page.specs.declared.content.Content.{Content}
 use Rattle.model_parts.specs.{IsEnlarged, IsHeaded, IsHeading, KeepsStretches, place_at}
 use Rattle.model_store.specs.{IsFairLog}
-use Rattle.redo_disk.specs.{HasCause, OnTold, write_at, WriteStep}
-use Rattle.redo_disk.specs.Seen.{Seen}
+use Rattle.redo_disk.specs.{HasCause, OnTold, write_at, WriteStep, Seen}
 use Rattle.redo_disk.specs.declared.error.DevError.{DevError}
 use Rattle.redo_open.specs.Put.{IsAtRestTo}
 use Rattle.redo_open.specs.declared.heads.TheConstants.{HEADS}

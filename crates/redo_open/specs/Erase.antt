@@ -1,8 +1,7 @@
 -- A stretch of a device while it is filled with zeros.
 use Rattle.std.specs.Prelude.{ℕ, ◌≡◌, ◌≤◌, ◌<◌, ◌*◌, ◌⊎◌, List, length}
 use Rattle.model_base.specs.declared.limits.TheConstants.{BLOCK_SIZE}
-use Rattle.model_device.specs.{AreSectorWrites, IsCovered, sector, settled}
-use Rattle.model_device.specs.Disk.{Disk}
+use Rattle.model_device.specs.{AreSectorWrites, IsCovered, sector, settled, Disk}
 use Rattle.model_parts.specs.{IsErasing, IsUnsealed, MayStand, zero_block}
 use Rattle.model_store.specs.{IsFairLog}
 

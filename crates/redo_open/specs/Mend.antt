@@ -1,8 +1,7 @@
 -- The data device while the places that didn't pass are repaired.
 use Rattle.std.specs.Prelude.{ℕ, ◌≡◌, ◌≢◌, ◌≤◌, ◌<◌, length, slice_get, Some, None}
 use Rattle.model_base.specs.declared.shape.Shape.{Shape}
-use Rattle.model_device.specs.{settled}
-use Rattle.model_device.specs.Disk.{Disk}
+use Rattle.model_device.specs.{settled, Disk}
 use Rattle.model_parts.specs.{KeepsSame, SameSlots}
 use Rattle.model_page.specs.{data_device_length, place_bytes, place_lsn, slot_bytes}
 use Rattle.redo_recover.specs.{IsFoundAt}

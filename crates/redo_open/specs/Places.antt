@@ -4,13 +4,11 @@ use Rattle.model_base.specs.{HasRisen}
 use Rattle.model_base.specs.declared.shape.Shape.{Shape}
 use Rattle.model_parts.specs.{IsRewriting, IsUpTo, read_as}
 use Rattle.model_parts.specs.Stored.{Stored}
-use Rattle.model_device.specs.{settled}
-use Rattle.model_device.specs.Disk.{Disk}
+use Rattle.model_device.specs.{settled, Disk}
 use Rattle.model_page.specs.{IsKept}
 use Rattle.model_page.specs.declared.content.Content.{Content}
-use Rattle.model_store.specs.{IsFair, IsOrderly}
-use Rattle.model_store.specs.Reading.{Reading}
-use Rattle.redo_disk.specs.Seen.{Seen}
+use Rattle.model_store.specs.{IsFair, IsOrderly, Reading}
+use Rattle.redo_disk.specs.{Seen}
 use Rattle.redo_open.specs.Rewrite.{AreTop, IsWrittenTo}
 use Rattle.redo_recover.specs.declared.fault.RecFault.{RecFault}
 use Rattle.redo_recover.specs.declared.fault.RecFault.TheVariants.{DataDev, NoMemory}

@@ -2,9 +2,8 @@
 use Rattle.std.specs.Prelude.{◌≡◌, None, Result, OnOk}
 use Rattle.model_base.specs.declared.shape.Shape.{Shape}
 use Rattle.model_parts.specs.{KeepsAll}
-use Rattle.model_device.specs.Disk.{Disk}
-use Rattle.redo_disk.specs.{HasCause, OnTold}
-use Rattle.redo_disk.specs.Seen.{Seen}
+use Rattle.model_device.specs.{Disk}
+use Rattle.redo_disk.specs.{HasCause, OnTold, Seen}
 use Rattle.redo_disk.specs.declared.error.DevError.{DevError}
 use Rattle.redo_store.specs.Part.{Part}
 

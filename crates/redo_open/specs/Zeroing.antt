@@ -1,14 +1,15 @@
 -- Some sectors of a device while they are filled with zeros, by writes and a sync.
-use Rattle.std.specs.Prelude.{ℕ, ◌≡◌, ◌≤◌, ◌⊎◌, List, length, Result, OnOk, OnErr}
-use Rattle.model_device.specs.{AreSectorWrites, sector}
-use Rattle.model_device.specs.Disk.{Disk}
-use Rattle.model_parts.specs.{IsAtRest, IsErased, IsErasing, IsUnsealed}
-use Rattle.model_parts.specs.Held.{MayStand}
+use Rattle.std.specs.Prelude.{ℕ, List, replicate, ◌≡◌, ◌≤◌, ◌⊎◌, length, Result, OnOk, OnErr}
+use Rattle.model_device.specs.{AreSectorWrites, sector, Disk}
+use Rattle.model_parts.specs.{IsAtRest, IsErased, IsErasing, IsUnsealed, MayStand}
 use Rattle.model_store.specs.{IsFairLog}
-use Rattle.redo_disk.specs.{HasCause, OnTold}
-use Rattle.redo_disk.specs.Seen.{Seen}
+use Rattle.redo_disk.specs.{HasCause, OnTold, Seen}
 use Rattle.redo_disk.specs.declared.error.DevError.{DevError}
 use Rattle.redo_open.specs.Put.{IsAtRestTo}
+
+-- so many of them; a long row isn't to be written out, so no proof sees into it unasked
+unfoldable pub zeros : ℕ → List ℕ
+zeros count = replicate count 0
 
 -- the device has at least so many bytes
 pub record IsLongTo (end : ℕ) (disk : Disk) : Type 0 where

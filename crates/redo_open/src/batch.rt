@@ -16,7 +16,7 @@ pub(crate) struct Batch {
 
 impl Model for Batch {
     ghost use Rattle.std.specs.Prelude.{vec_capacity};
-    ghost use Rattle.redo_open.specs.Gather.{Gathered, HasBatchRoom};
+    ghost use Rattle.redo_open.specs.Rewrite.{Gathered, HasBatchRoom};
 
     ghost Value = { Gathered };
 

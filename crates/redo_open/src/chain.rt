@@ -7,11 +7,10 @@ ghost use Rattle.model_log.specs.{log_device_length, start_after};
 ghost use Rattle.model_log.specs.declared.head.Format.TheVariants.{One, Two, Three};
 ghost use Rattle.model_page.specs.{data_device_length};
 ghost use Rattle.redo_apply.specs.{ArePagesOf};
-ghost use Rattle.redo_disk.specs.{MakesCalls, MayEndWith};
-ghost use Rattle.redo_disk.specs.Seen.{Seen};
+ghost use Rattle.redo_disk.specs.{MakesCalls, MayEndWith, Seen};
 ghost use Rattle.redo_open.specs.Chain.{LinkStep, next_format};
 ghost use Rattle.redo_open.specs.Devices.{AreCalled, IsSameDevice};
-ghost use Rattle.redo_open.specs.Formatting.{WritesInside};
+ghost use Rattle.redo_open.specs.Opening.{WritesInside};
 ghost use Rattle.redo_open.specs.Puts.{ArePuts};
 ghost use Rattle.redo_recover.specs.{data_error_of, log_error_of, reading_of};
 

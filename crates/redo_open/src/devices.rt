@@ -6,7 +6,7 @@ ghost use Rattle.model_page.specs.declared.content.Content.{Content};
 ghost use Rattle.redo_disk.specs.{MayEndWith};
 ghost use Rattle.redo_open.specs.Clear.{MayStart};
 ghost use Rattle.redo_open.specs.Devices.{AreCalled, DevicesStep};
-ghost use Rattle.redo_open.specs.Formatting.{WritesInside};
+ghost use Rattle.redo_open.specs.Opening.{WritesInside};
 ghost use Rattle.redo_open.specs.Mend.{IsSettledData};
 ghost use Rattle.redo_recover.specs.{AreFoundOn, ArePlacesOf, data_error_of, IsTailFound, log_error_of, reading_of};
 

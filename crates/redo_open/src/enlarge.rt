@@ -8,7 +8,7 @@ ghost use Rattle.redo_apply.specs.{ArePagesOf};
 ghost use Rattle.redo_disk.specs.{error_of, MakesCalls};
 ghost use Rattle.redo_open.specs.Enlarge.{EnlargeStep, HeadStep, IsPlaceText, WritesPlace};
 ghost use Rattle.redo_open.specs.Puts.{PutsWhere};
-ghost use Rattle.redo_open.specs.Zeros.{zeros};
+ghost use Rattle.redo_open.specs.Zeroing.{zeros};
 
 use crate::put::put_head;
 use crate::zeros::erase;

@@ -7,7 +7,7 @@ ghost use Rattle.model_parts.specs.{IsFormatted, KeepsNoStore};
 ghost use Rattle.model_page.specs.{data_device_length};
 ghost use Rattle.redo_disk.specs.{HasSize};
 ghost use Rattle.redo_open.specs.Devices.{AreCalled, WhereBothTell};
-ghost use Rattle.redo_open.specs.Formatting.{FormatCalls, HasFormatCause, JudgesLengths};
+ghost use Rattle.redo_open.specs.Opening.{FormatCalls, HasFormatCause, JudgesLengths};
 ghost use Rattle.redo_open.specs.Puts.{ArePuts};
 
 use crate::blank::{clear_blocks, clear_heads, clear_pages, put_new_log};

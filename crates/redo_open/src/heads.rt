@@ -3,7 +3,7 @@ ghost use Rattle.std.specs.Prelude.{◌≡◌, ◌≤◌, ◌+◌, ◌↔◌, If
 ghost use Rattle.model_log.specs.{read_head, sector_at};
 ghost use Rattle.model_log.specs.declared.head.Head.TheVariants.{Good};
 ghost use Rattle.redo_disk.specs.{error_of, MakesCalls, part};
-ghost use Rattle.redo_open.specs.Heads.{AlikeStep, PutsHead};
+ghost use Rattle.redo_open.specs.Put.{AlikeStep, PutsHead};
 ghost use Rattle.redo_open.specs.Puts.{PutsWhere};
 ghost use Rattle.redo_recover.specs.{IsOnlyRead};
 ghost use Rattle.redo_recover.specs.Devices.{OnContent};

@@ -5,7 +5,7 @@ ghost use Rattle.model_base.specs.declared.limits.TheConstants.{START_LSN};
 ghost use Rattle.model_device.specs.{IsWithin};
 ghost use Rattle.model_log.specs.{log_device_length};
 ghost use Rattle.redo_disk.specs.{error_of, MakesCalls};
-ghost use Rattle.redo_open.specs.Migrate.{MigrateStep};
+ghost use Rattle.redo_open.specs.Put.{MigrateStep};
 ghost use Rattle.redo_open.specs.Puts.{PutsWhere};
 
 use crate::put::{put_checkpoint, put_head};

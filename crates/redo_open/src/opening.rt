@@ -5,13 +5,11 @@ ghost use Rattle.model_base.specs.declared.limits.TheConstants.{FIRST_DATA_LSN};
 ghost use Rattle.model_log.specs.{IsAtDataStart, log_device_length};
 ghost use Rattle.model_page.specs.{data_device_length};
 ghost use Rattle.model_parts.specs.{numbers_taken};
-ghost use Rattle.model_store.specs.{IsOrderly};
-ghost use Rattle.model_store.specs.Reading.{Reading};
+ghost use Rattle.model_store.specs.{IsOrderly, Reading};
 ghost use Rattle.redo_disk.specs.{MayEndWith};
 ghost use Rattle.redo_open.specs.Devices.{AreCalled, WhereBothTell};
-ghost use Rattle.redo_open.specs.Formatting.{WritesInside};
+ghost use Rattle.redo_open.specs.Opening.{WritesInside, log_device_left, data_device_left, log_error_in, data_error_in, HasFaultCause, IsOpeningOf, IsStarted, OpensInside, OpensLog, OpensSafely, OpensRecovered, WhereStillTold};
 ghost use Rattle.redo_open.specs.Mend.{IsSettledData};
-ghost use Rattle.redo_open.specs.Opening.{log_device_left, data_device_left, log_error_in, data_error_in, HasFaultCause, IsOpeningOf, IsStarted, OpensInside, OpensLog, OpensSafely, OpensRecovered, WhereStillTold};
 ghost use Rattle.redo_store.specs.{IsRunnable};
 ghost use Rattle.redo_recover.specs.{AreFoundOn, IsOfDevices, OnContents, reading_of};
 

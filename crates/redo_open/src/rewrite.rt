@@ -7,9 +7,8 @@ ghost use Rattle.model_page.specs.{data_device_length};
 ghost use Rattle.model_page.specs.declared.content.Content.{Content};
 ghost use Rattle.redo_apply.specs.{ArePagesOf};
 ghost use Rattle.redo_disk.specs.{error_of, MakesCalls};
-ghost use Rattle.redo_open.specs.Gather.{AreGathered, GatherStep};
+ghost use Rattle.redo_open.specs.Rewrite.{AreGathered, GatherStep, RewriteStep};
 ghost use Rattle.redo_open.specs.Puts.{PutsWhere};
-ghost use Rattle.redo_open.specs.Rewrite.{RewriteStep};
 ghost use Rattle.redo_recover.specs.declared.places.Found.{Found};
 
 use crate::batch::Batch;

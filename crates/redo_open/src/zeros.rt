@@ -6,7 +6,7 @@ ghost use Rattle.redo_disk.specs.{error_of, HasCause, IsRange, MakesCall, MakesC
 ghost use Rattle.redo_open.specs.Erase.{Erases, ErasesIn, HasErased, HasZeros, Reaches};
 ghost use Rattle.redo_open.specs.Put.{IsAtRestTo};
 ghost use Rattle.redo_open.specs.Puts.{PutsWhere};
-ghost use Rattle.redo_open.specs.Zeros.{zeros};
+ghost use Rattle.redo_open.specs.Zeroing.{zeros};
 
 use crate::PIECE;
 use redo_disk::{DevError, Sectors};

@@ -1,16 +1,13 @@
 -- A run whose users write for themselves begins as any run does.
-use Rattle.std.proofs.Common.{Bool, List, [], ap, append_assoc, arith, false, length, map, refl, subst, suc, sym, true}
-use Rattle.std.proofs.Common.{zero, ℕ, ◌++◌, ◌+◌, ◌<◌, ◌∙◌, ◌∷◌, ◌≡◌, ◌≤◌}
+use Rattle.std.proofs.Common.{Bool, List, [], ap, append_assoc, arith, false, length, map, refl, subst, suc, sym, true, zero, ℕ, ◌++◌, ◌+◌, ◌<◌, ◌∙◌, ◌∷◌, ◌≡◌, ◌≤◌}
 use Rattle.std.specs.Prelude.{IfSome}
 use Rattle.model_base.specs.declared.limits.TheConstants.{LSN_LIMIT}
-use Rattle.model_core.specs.Actors as model
-use Rattle.model_core.specs.Setup.{Setup}
-use Rattle.model_core.specs.{Given, lsn, new_flusher, new_writer, FlusherState, UserState, WriterState}
+use Rattle.model_core.specs.States as model
+use Rattle.model_core.specs.{Setup, Given, lsn, new_flusher, new_writer, FlusherState, UserState, WriterState}
 use Rattle.model_log.specs.{lsn_of, run_layout, sn_of, stream_of}
 use Rattle.model_logcore.specs.{left_to_reserve, sum_over_actors}
 use Rattle.model_logcore.specs.Start.{flusher_start, writer_start}
-use Rattle.model_own.specs.OwnTurn.{all_actors}
-use Rattle.model_own.specs.OwnWrites.{LogWork, OwnUser}
+use Rattle.model_own.specs.{all_actors, LogWork, OwnUser}
 use Rattle.model_ownrun.proofs.OwnRuns.{alone_starts, own_starts}
 use Rattle.model_ownrun.proofs.Seats.{flusher_seat, flusher_there, writer_seat, writer_there}
 use Rattle.model_ownrun.specs.OwnStart.{OwnStart}
@@ -19,14 +16,11 @@ use Rattle.model_running.specs.StartStore.{StartStore}
 use Rattle.model_script.specs.{group_of, script_end}
 use Rattle.model_script.specs.declared.misfit.TheConstants.{MARGIN}
 use Rattle.model_script.specs.declared.script.ScriptLine.{ScriptLine}
-use Rattle.redo_disk.specs.Seen.{Seen}
+use Rattle.redo_disk.specs.{Seen}
 use Rattle.redo_drive.proofs.ScriptRoom.{actors_reserve, room_for_all}
 use Rattle.redo_drive.specs.Begins.{BeginsWith}
-use Rattle.redo_drive.specs.Playing.{RunOf, run_data_side, run_log_side}
-use Rattle.redo_drive.specs.Running.{RunsWith}
+use Rattle.redo_drive.specs.{RunOf, run_data_side, run_log_side, RunsWith, MayBegin, room_from, views_of}
 use Rattle.redo_drive.specs.Setups.{followers_from, page_actors, readers_of, users_of}
-use Rattle.redo_drive.specs.Startable.{MayBegin, room_from}
-use Rattle.redo_drive.specs.Views.{views_of}
 use Rattle.redo_drive.specs.declared.actor.Actor.{Actor}
 use Rattle.redo_drive.specs.declared.making.Beginning.{Beginning}
 use Rattle.redo_drive.specs.declared.parts.Parts.{Parts}
@@ -36,11 +30,9 @@ use Rattle.redo_ownmachine.proofs.OpenSeats.{same_rest, tail_of}
 use Rattle.redo_ownmachine.proofs.Places.{crew_views}
 use Rattle.redo_ownmachine.proofs.Serves.{its_data_laws, its_log_laws}
 use Rattle.redo_ownmachine.proofs.Sorting.{AreOtherViews, by_views}
-use Rattle.redo_ownmachine.specs.OwnBegins.{OwnBeginsRun}
+use Rattle.redo_ownmachine.specs.OwnStore.{OwnBeginsRun, own_core_of, OwnAlone, OwnRunsWith}
 use Rattle.redo_ownmachine.specs.OwnCrew.{HasRoom, HaveWorkers, crew, crew_of, seats_of}
 use Rattle.redo_ownmachine.specs.OwnSeats.{AreAtHome, OwnSeats, actors_of}
-use Rattle.redo_ownmachine.specs.OwnAsking.{own_core_of}
-use Rattle.redo_ownmachine.specs.OwnStore.{OwnAlone, OwnRunsWith}
 use Rattle.redo_ownmachine.specs.declared.machine.OwnMachine.{OwnMachine}
 use Rattle.redo_store.specs.declared.opened.Opened.{Opened}
 

@@ -4,26 +4,21 @@ use Rattle.std.proofs.Common.{Bool, List, None, Option, Some, ap, length, set, s
 use Rattle.std.proofs.lemmas.List.{length-set}
 use lib.ListN.{get_elem?}
 use mathlib.Core.Option.{some}
-use Rattle.model_core.specs.Actors as model
+use Rattle.model_core.specs.States as model
 use Rattle.model_core.specs.{Given, ReaderState}
 use Rattle.model_core.specs.declared.ops.Step.{Step}
-use Rattle.model_own.specs.OwnWrites.{LogWork, OwnUser}
+use Rattle.model_own.specs.{LogWork, OwnUser}
 use Rattle.model_ownrun.specs.OwnRunning.{Errands}
 use Rattle.redo_archive.specs.Part.{Part}
 use Rattle.redo_archiver.specs.{KeepsPace}
-use Rattle.redo_disk.specs.{Call}
-use Rattle.redo_disk.specs.Seen.{Seen}
+use Rattle.redo_disk.specs.{Call, Seen}
 use Rattle.redo_drive.proofs.Viewed.{views_at}
-use Rattle.redo_drive.specs.Archiving.{HasComeTo}
-use Rattle.redo_drive.specs.Playing.{RunOf, run_log_side}
-use Rattle.redo_drive.specs.Receiving.{follower_of, HasGot, IsSameFollower}
-use Rattle.redo_drive.specs.Running.{groups_of, RunsFromWith, RunsWith}
-use Rattle.redo_drive.specs.Views.{view_of, views_of}
+use Rattle.redo_drive.specs.{HasComeTo, RunOf, run_log_side, groups_of, RunsFromWith, RunsWith, follower_of, HasGot, IsSameFollower, view_of, views_of}
 use Rattle.redo_drive.specs.declared.actor.Actor.{Actor}
 use Rattle.redo_drive.specs.declared.actor.Actor.TheVariants as own
 use Rattle.redo_drive.specs.declared.parts.Parts.{Parts}
 use Rattle.redo_follow.specs.Following.{Following}
-use Rattle.redo_machine.specs.Appending.{AreNumbered}
+use Rattle.redo_machine.specs.Reading.{AreNumbered}
 use Rattle.redo_ownmachine.proofs.From.{groups_same, told_earlier}
 use Rattle.redo_ownmachine.proofs.Places.{crew_length, crew_views, Stays, StaysAt, stays_at}
 use Rattle.redo_ownmachine.proofs.UserBeside.{come_user}

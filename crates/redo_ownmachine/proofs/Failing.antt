@@ -1,17 +1,10 @@
 -- A turn that ends by a failure leaves a code in FAILED, and that has a cause; and no turn takes a code from there.
-use Rattle.std.proofs.Common.{Bool, List, ap, arith, cond, false, inl, inr, refl, subst, sym, true, ℕ, ⊎_elim}
-use Rattle.std.proofs.Common.{◌+◌, ◌<◌, ◌==◌, ◌∙◌, ◌≡◌, ◌⊎◌}
+use Rattle.std.proofs.Common.{Bool, List, ap, arith, cond, false, inl, inr, refl, subst, sym, true, ℕ, ⊎_elim, ◌+◌, ◌<◌, ◌==◌, ◌∙◌, ◌≡◌, ◌⊎◌}
 use Rattle.std.specs.Prelude.{slice_index, slice_set}
 use lib.ListN.{get_elem?}
 use mathlib.Core.Option.{some}
-use Rattle.model_core.specs.{answer_of, DataServed, filled, HasLost, lists_left, LogServed, next}
-use Rattle.model_core.specs.{old_of, step_of, took, user_ending, words_left}
-use Rattle.model_core.specs.Actors as actor
-use Rattle.model_core.specs.Actors.{Lent}
-use Rattle.model_core.specs.DataSide.{DataSide}
-use Rattle.model_core.specs.LogSide.{LogSide}
-use Rattle.model_core.specs.Setup.{Setup}
-use Rattle.model_core.specs.Turn.{list_word}
+use Rattle.model_core.specs.{answer_of, DataServed, filled, HasLost, lists_left, LogServed, next, old_of, step_of, took, user_ending, words_left, Lent, DataSide, LogSide, Setup, list_word}
+use Rattle.model_core.specs.States as actor
 use Rattle.model_core.proofs.Lists.{set_at}
 use Rattle.model_core.specs.declared.ops.Answer.{Answer}
 use Rattle.model_core.specs.declared.ops.Op.{Op}
@@ -20,16 +13,14 @@ use Rattle.model_core.specs.declared.ops.Step.TheVariants as step
 use Rattle.model_core.specs.declared.steps.UserStep.{UserStep}
 use Rattle.model_core.specs.declared.steps.UserStep.TheVariants as user_step
 use Rattle.model_logcore.specs.LogLaws.{LogLaws}
-use Rattle.model_own.specs.OwnTurn.{OwnCore, OwnTurn, UserTurn, with_writer}
-use Rattle.model_own.specs.OwnWrites.{errand_took, errand_waits, LogWork, own_checked}
-use Rattle.model_own.specs.OwnWrites.{own_goes_on, own_lends, own_step_of, OwnUser}
+use Rattle.model_own.specs.{OwnCore, OwnTurn, UserTurn, with_writer, errand_took, errand_waits, LogWork, own_checked, own_goes_on, own_lends, own_step_of, OwnUser}
 use Rattle.model_ownrun.proofs.Seats.{user_there}
 use Rattle.model_ownrun.specs.OwnRunning.{OwnRunning}
 use Rattle.model_pagecore.specs.DataLaws.{DataLaws}
 use Rattle.model_running.proofs.Archiving.{others_append_not, served_none}
 use Rattle.model_running.proofs.FailedStays.{turn_keeps_failed}
 use Rattle.model_running.proofs.Watermarks.{has_watermarks}
-use Rattle.model_running.specs.RunningStore.{IsRunning}
+use Rattle.model_running.specs.Watermarks.{IsRunning}
 use Rattle.redo_drive.proofs.FailedTurns.{failed_turn_has_some}
 use Rattle.redo_ownmachine.proofs.Plays.{IsOpOf, nothing, plays_as}
 

@@ -2,14 +2,12 @@
 use Rattle.std.proofs.Common.{Bool, List, [], arith, cond, false, refl, set, subst, sym, true, ℕ, ◌≡◌, ◌≤◌}
 use lib.ListN.{get_elem?}
 use mathlib.Core.Option.{some}
-use Rattle.model_core.specs.Actors as model
-use Rattle.model_core.specs.DataSide.{DataSide}
-use Rattle.model_core.specs.{archives, Entry, flusher_op, Given, lent, LogServed, next, writer_op}
-use Rattle.model_core.specs.LogSide.{LogSide}
+use Rattle.model_core.specs.States as model
+use Rattle.model_core.specs.{DataSide, LogSide, archives, Entry, flusher_op, Given, lent, LogServed, next, writer_op}
 use Rattle.model_core.specs.declared.ops.Op.TheVariants as op
 use Rattle.model_core.specs.declared.ops.Step.{Step}
 use Rattle.model_core.specs.declared.words.Word.TheVariants as word
-use Rattle.model_own.specs.OwnWrites.{LogWork, OwnUser, errand_lends, errand_op}
+use Rattle.model_own.specs.{LogWork, OwnUser, errand_lends, errand_op}
 use Rattle.model_own.specs.declared.errand.ErrandStep.{ErrandStep}
 use Rattle.model_own.specs.declared.errand.ErrandStep.TheVariants as errand_step
 use Rattle.model_ownrun.proofs.Seats.{flusher_seat, flusher_there, writer_seat, writer_there}
@@ -17,9 +15,8 @@ use Rattle.model_ownrun.proofs.UserPart.{user_keeps_part}
 use Rattle.model_running.proofs.Following.{bound_upto}
 use Rattle.model_running.proofs.LogCalls.{told_before}
 use Rattle.model_running.specs.ReadHalf.{FollowerHas, groups_upto, HasByKind, ReaderHas}
-use Rattle.redo_disk.specs.Seen.{Seen}
-use Rattle.redo_drive.specs.Playing.{RunOf, run_data_side, run_log_side}
-use Rattle.redo_drive.specs.Running.{groups_of}
+use Rattle.redo_disk.specs.{Seen}
+use Rattle.redo_drive.specs.{RunOf, run_data_side, run_log_side, groups_of}
 use Rattle.redo_drive.specs.declared.parts.Parts.{Parts}
 use Rattle.redo_ownmachine.proofs.Grows.{all_no_fewer, groups_sum, no_fewer}
 use Rattle.redo_ownmachine.proofs.Serves.{goes_on, its_data_laws, its_log_laws}

@@ -1,12 +1,9 @@
 -- A turn of a user that writes for itself takes no group from it.
-use Rattle.std.proofs.Common.{Bool, List, [], append-nil, arith, cond, false, refl, set, suc, sym, true, zero, ℕ}
-use Rattle.std.proofs.Common.{◌++◌, ◌+◌, ◌==◌, ◌∙◌, ◌∷◌, ◌≡◌, ◌≤◌, length, ap}
+use Rattle.std.proofs.Common.{Bool, List, [], append-nil, arith, cond, false, refl, set, suc, sym, true, zero, ℕ, ◌++◌, ◌+◌, ◌==◌, ◌∙◌, ◌∷◌, ◌≡◌, ◌≤◌, length, ap}
 use lib.ListN.{get_elem?}
 use mathlib.Core.Option.{some, some-injective, some-ne-none}
-use Rattle.model_core.specs.{after_link, answered, can_close, can_link, changes, entries, entries_from, Entry, flusher_took}
-use Rattle.model_core.specs.{FlusherState, has_passed, has_room, has_space, heard, Line, mode, old_of, sum_of, tail_of}
-use Rattle.model_core.specs.{to_next_page, user_took, UserState, with_mark, writer_took, WriterState}
-use Rattle.model_core.specs.Actors as model
+use Rattle.model_core.specs.{after_link, answered, can_close, can_link, changes, entries, entries_from, Entry, flusher_took, FlusherState, has_passed, has_room, has_space, heard, Line, mode, old_of, sum_of, tail_of, to_next_page, user_took, UserState, with_mark, writer_took, WriterState}
+use Rattle.model_core.specs.States as model
 use Rattle.model_core.specs.UserProgram.{with_close_room, with_link_room, without_close_room, without_link_room}
 use Rattle.model_core.specs.declared.ops.Answer.{Answer}
 use Rattle.model_core.specs.declared.ops.Answer.TheVariants as answer
@@ -18,9 +15,7 @@ use Rattle.model_core.specs.declared.steps.UserStep.TheVariants as user_step
 use Rattle.model_core.specs.declared.steps.WriterStep.{WriterStep}
 use Rattle.model_core.specs.declared.steps.WriterStep.TheVariants as writer_step
 use Rattle.model_logcore.specs.{sum_over_actors}
-use Rattle.model_own.specs.OwnTurn.{all_actors}
-use Rattle.model_own.specs.OwnWrites.{LogWork, OwnUser, after_flusher, after_writer, errand_took, keeps_helped}
-use Rattle.model_own.specs.OwnWrites.{loads_again, own_checked, own_goes_on, own_stepped, sets_out, written}
+use Rattle.model_own.specs.{all_actors, LogWork, OwnUser, after_flusher, after_writer, errand_took, keeps_helped, loads_again, own_checked, own_goes_on, own_stepped, sets_out, written}
 use Rattle.model_own.specs.declared.errand.ErrandStep.{ErrandStep}
 use Rattle.model_own.specs.declared.errand.ErrandStep.TheVariants as errand_step
 use Rattle.model_ownrun.proofs.OwnSeats.{own_same}

@@ -3,7 +3,7 @@ use Rattle.std.proofs.Common.{List, ap, arith, get_or, length, subst, sym, ℕ, 
 use native.Mathlib.Decide.{ℕ_discrete}
 use lib.ListN.{get_elem?}
 use mathlib.Core.Option.{some, some-injective}
-use Rattle.model_own.specs.OwnWrites.{OwnUser}
+use Rattle.model_own.specs.{OwnUser}
 use Rattle.model_running.specs.{HasEnded}
 use Rattle.redo_machine.specs.OpenUsers.{IsOpenUser}
 use Rattle.redo_ownmachine.proofs.Places.{sits, sits_below}

@@ -2,11 +2,9 @@
 use Rattle.std.proofs.Common.{Bool, List, [], ap, map, refl, subst, suc, sym, zero, ℕ, ◌++◌, ◌∙◌, ◌∷◌, ◌≡◌}
 use lib.ListN.{get_elem?}
 use mathlib.Core.Option.{some, some-injective, some-ne-none}
-use Rattle.model_core.specs.{Actor, UserState, WriterState}
-use Rattle.model_core.specs.Actors as actor
-use Rattle.model_core.specs.Setup.{Setup}
-use Rattle.model_own.specs.OwnTurn.{all_actors}
-use Rattle.model_own.specs.OwnWrites.{LogWork, OwnUser}
+use Rattle.model_core.specs.{Actor, UserState, WriterState, Setup}
+use Rattle.model_core.specs.States as actor
+use Rattle.model_own.specs.{all_actors, LogWork, OwnUser}
 use Rattle.model_ownrun.proofs.Seats.{user_there}
 use Rattle.model_running.proofs.Seated.{user_seat}
 use Rattle.model_running.specs.{AreSeated, HasEnded, HaveEnded}

@@ -1,26 +1,22 @@
 -- A turn of another actor, beside an archive or none: it is one of the store with the users, a writer and a flusher.
 use Rattle.std.proofs.Common.{Bool, List, Option, ap, arith, get_or, length, set, subst, sym, ℕ, ◌-◌, ◌<◌, ◌∙◌, ◌≡◌, ◌≤◌}
 use Rattle.std.specs.Prelude.{is_some}
-use Rattle.model_core.specs.Actors as model
+use Rattle.model_core.specs.States as model
 use Rattle.model_core.specs.{Given, next, ReaderState}
 use Rattle.model_core.specs.declared.ops.Op.TheVariants as op
 use Rattle.model_core.specs.declared.ops.Step.{Step}
-use Rattle.model_own.specs.OwnWrites.{LogWork, OwnUser}
+use Rattle.model_own.specs.{LogWork, OwnUser}
 use Rattle.redo_archive.specs.Part.{Part}
 use Rattle.redo_archiver.specs.{KeepsPace, MayAppendBlock}
-use Rattle.redo_disk.specs.{Call}
-use Rattle.redo_disk.specs.Seen.{Seen}
+use Rattle.redo_disk.specs.{Call, Seen}
 use Rattle.redo_drive.proofs.TurnsOf.{runs_from}
 use Rattle.redo_drive.proofs.Viewed.{own_at}
-use Rattle.redo_drive.specs.Archiving.{IsBeside}
-use Rattle.redo_drive.specs.Playing.{HasSamePages, RunOf}
-use Rattle.redo_drive.specs.Running.{RunsWith}
-use Rattle.redo_drive.specs.Views.{views_of}
+use Rattle.redo_drive.specs.{IsBeside, HasSamePages, RunOf, RunsWith, views_of}
 use Rattle.redo_drive.specs.declared.actor.Actor.{Actor}
 use Rattle.redo_drive.specs.declared.parts.Parts.{Parts}
 use Rattle.redo_machine.proofs.Beside.{serves_with}
 use Rattle.redo_machine.proofs.TurnBeside as turned
-use Rattle.redo_machine.specs.Appending.{AreNumbered, IsServedWith, MayServeWith}
+use Rattle.redo_machine.specs.Reading.{AreNumbered, IsServedWith, MayServeWith}
 use Rattle.redo_ownmachine.proofs.Comes.{HasComeWith}
 use Rattle.redo_ownmachine.proofs.Places.{behind, behind_seat, crew_get, crew_length, crew_put, crew_views}
 use Rattle.redo_ownmachine.proofs.Serves.{its_data_laws, its_log_laws}

@@ -3,12 +3,11 @@
 use Rattle.std.proofs.Common.{inl, inr, ℕ, ⊎_elim, ◌+◌}
 use Rattle.model_core.specs.declared.ops.Answer.{Answer}
 use Rattle.model_core.specs.declared.ops.Step.{Step}
-use Rattle.model_own.specs.OwnTurn.{OtherTurn, OwnCore, OwnTurn, UserTurn, with_writer}
-use Rattle.model_own.specs.OwnWrites.{own_lends, own_next}
-use Rattle.redo_disk.specs.Seen.{Seen}
+use Rattle.model_own.specs.{OtherTurn, OwnCore, OwnTurn, UserTurn, with_writer, own_lends, own_next}
+use Rattle.redo_disk.specs.{Seen}
 use Rattle.redo_drive.proofs.ThinTurns.{data_thin, log_thin, turn_thin}
 use Rattle.redo_drive.specs.Sides.{RunOf, run_data_side, run_log_side}
-use Rattle.redo_drive.specs.TurnSides.{turn_data_side, turn_log_side}
+use Rattle.redo_drive.specs.{turn_data_side, turn_log_side}
 
 module _ {L D : Type 0} (log_seen : L → Seen) (data_seen : D → Seen) (run : RunOf L D) where
   -- the state of the one as that of the other

@@ -1,14 +1,11 @@
 -- The seats of a store whose users write for themselves, and those that it would have with a writer and a flusher.
-use Rattle.std.proofs.Common.{List, [], ap, arith, get_or, inl, inr, length, refl, set, subst, suc, sym, zero, ℕ}
-use Rattle.std.proofs.Common.{◌+◌, ◌-◌, ◌<◌, ◌∷◌, ◌≡◌, ◌≤◌, ◌⊎◌}
+use Rattle.std.proofs.Common.{List, [], ap, arith, get_or, inl, inr, length, refl, set, subst, suc, sym, zero, ℕ, ◌+◌, ◌-◌, ◌<◌, ◌∷◌, ◌≡◌, ◌≤◌, ◌⊎◌}
 use Rattle.std.specs.Prelude.{None, Option}
 use lib.ListN.{get_elem?}
 use mathlib.Core.Option.{some, some-injective, some-ne-none}
-use Rattle.model_core.specs.Actors as model
-use Rattle.model_own.specs.OwnTurn.{all_actors}
-use Rattle.model_own.specs.OwnWrites.{LogWork, OwnUser}
-use Rattle.redo_drive.specs.Receiving.{follower_of}
-use Rattle.redo_drive.specs.Views.{views_of}
+use Rattle.model_core.specs.States as model
+use Rattle.model_own.specs.{all_actors, LogWork, OwnUser}
+use Rattle.redo_drive.specs.{follower_of, views_of}
 use Rattle.redo_drive.specs.declared.actor.Actor.{Actor}
 use Rattle.redo_drive.specs.declared.actor.Actor.TheVariants as own
 use Rattle.redo_follow.specs.Following.{Following}

@@ -1,21 +1,17 @@
 -- Whose Op a user plays that writes for itself: its own, or one of the writer or the flusher, had the store these. Else it
 -- takes or gives DEVICE, or loads FAILED.
-use Rattle.std.proofs.Common.{Bool, List, ap, cond, false, get_or-set_other, inl, inr, refl, subst, sym, true, ℕ}
-use Rattle.std.proofs.Common.{◌==◌, ◌∙◌, ◌≡◌, ◌⊎◌, []}
+use Rattle.std.proofs.Common.{Bool, List, ap, cond, false, get_or-set_other, inl, inr, refl, subst, sym, true, ℕ, ◌==◌, ◌∙◌, ◌≡◌, ◌⊎◌, []}
 use Rattle.std.specs.Prelude.{slice_index, slice_set}
 use lib.ListN.{get_elem?}
 use mathlib.Core.Option.{some}
-use Rattle.model_core.specs.{Actor, filled, Fills, flusher_op, lent, next, words_left, writer_op}
-use Rattle.model_core.specs.Actors as actor
-use Rattle.model_core.specs.LogSide.{LogSide}
+use Rattle.model_core.specs.{Actor, filled, Fills, flusher_op, lent, next, words_left, writer_op, LogSide}
+use Rattle.model_core.specs.States as actor
 use Rattle.model_core.specs.ReaderProgram.{Filling}
 use Rattle.model_core.specs.declared.ops.Op.{Op}
 use Rattle.model_core.specs.declared.ops.Op.TheVariants as op
 use Rattle.model_core.specs.declared.words.Layout.{Layout}
 use Rattle.model_core.specs.declared.words.Word.TheVariants as word
-use Rattle.model_own.specs.OwnTurn.{all_actors}
-use Rattle.model_own.specs.OwnWrites.{errand_lends, errand_op, LogWork, own_lends, own_next, OwnUser}
-use Rattle.model_own.specs.ErrandFits.{has_work}
+use Rattle.model_own.specs.{all_actors, errand_lends, errand_op, LogWork, own_lends, own_next, OwnUser, has_work}
 use Rattle.model_own.specs.declared.errand.ErrandStep.{ErrandStep}
 use Rattle.model_own.specs.declared.errand.ErrandStep.TheVariants as errand_step
 use Rattle.model_ownrun.proofs.Errands.{in_hand}

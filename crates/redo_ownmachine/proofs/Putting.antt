@@ -1,10 +1,9 @@
 -- The actors that a run leaves are put into their seats from the last one on, and then turned round.
-use Rattle.std.proofs.Common.{List, [], ap, append_assoc, append-nil, arith, length, map, refl, reverse, sym, ℕ, ◌++◌, ◌∙◌}
-use Rattle.std.proofs.Common.{drop, take, ◌∷◌, ◌≡◌}
+use Rattle.std.proofs.Common.{List, [], ap, append_assoc, append-nil, arith, length, map, refl, reverse, sym, ℕ, ◌++◌, ◌∙◌, drop, take, ◌∷◌, ◌≡◌}
 use Rattle.std.proofs.Math.Seq.{take-append_seam}
 use Rattle.std.proofs.lemmas.List.{length-map, length-reverse, map-append, reverse-append, reverse-reverse}
 use Rattle.model_core.specs.{FlusherState, WriterState}
-use Rattle.model_own.specs.OwnWrites.{LogWork, OwnUser}
+use Rattle.model_own.specs.{LogWork, OwnUser}
 use Rattle.redo_drive.specs.declared.actor.Actor.{Actor}
 use Rattle.redo_drive.specs.declared.actor.Actor.TheVariants as own
 use Rattle.redo_ownmachine.specs.OwnCrew.{crew, users_alone}

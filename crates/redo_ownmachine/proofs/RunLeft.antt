@@ -1,14 +1,11 @@
 -- What a run by turns leaves whose users write for themselves, and so what it comes to.
-use Rattle.std.proofs.Common.{Bool, List, Option, ap, is_some, length, refl, slice_index, subst, suc, sym, true, zero}
-use Rattle.std.proofs.Common.{⊎_elim, ℕ, ◌∙◌, ◌≡◌}
+use Rattle.std.proofs.Common.{Bool, List, Option, ap, is_some, length, refl, slice_index, subst, suc, sym, true, zero, ⊎_elim, ℕ, ◌∙◌, ◌≡◌}
 use lib.ListN.{get_elem?}
 use Rattle.model_base.specs.declared.shape.Shape.{Shape}
-use Rattle.model_core.specs.{filled, Given, lent, lsn, next}
-use Rattle.model_core.specs.Actors as model
-use Rattle.model_core.specs.Layout.{failed_at}
+use Rattle.model_core.specs.{filled, Given, lent, lsn, next, failed_at}
+use Rattle.model_core.specs.States as model
 use Rattle.model_core.specs.declared.ops.Step.{Step}
-use Rattle.model_own.specs.OwnTurn.{OwnCore, OwnTurn, with_writer}
-use Rattle.model_own.specs.OwnWrites.{own_lends, own_next}
+use Rattle.model_own.specs.{OwnCore, OwnTurn, with_writer, own_lends, own_next}
 use Rattle.model_ownrun.proofs.OwnRuns.{AloneFrom, never_idle}
 use Rattle.model_ownrun.specs.OwnRuns.{own_store}
 use Rattle.model_running.proofs.OpenLines as open_lines
@@ -17,22 +14,16 @@ use Rattle.model_running.specs.{HaveEnded, history_of, LeavesOpen, marks_in, Tak
 use Rattle.model_report.specs.declared.entry.Entry.{Entry}
 use Rattle.model_script.specs.declared.script.ScriptLine.{ScriptLine}
 use Rattle.redo_archive.specs.Part.{Part}
-use Rattle.redo_disk.specs.{Call}
-use Rattle.redo_disk.specs.Seen.{Seen}
+use Rattle.redo_disk.specs.{Call, Seen}
 use Rattle.redo_drive.proofs.LeftRun as left_run
 use Rattle.redo_drive.proofs.ShapeStays.{served_shape}
-use Rattle.redo_drive.specs.Archived.{HaveArchived}
+use Rattle.redo_drive.specs.{HaveArchived, CallOnBoth, CallsOn, ListsInOrder, views_of, RunOf, run_data_side, run_log_side, AreNewFollowers, MayBegin}
 use Rattle.redo_drive.specs.Beginning.{StandsWith}
-use Rattle.redo_drive.specs.Calls.{CallOnBoth, CallsOn}
 use Rattle.redo_drive.specs.Drive.{HasMetError, Owes}
 use Rattle.redo_drive.specs.Followed.{HaveFollowed}
-use Rattle.redo_drive.specs.History.{ListsInOrder}
 use Rattle.redo_drive.specs.Leaving.{LeavesWith}
 use Rattle.redo_drive.specs.LogPartSide as log_part
-use Rattle.redo_drive.specs.Playing.{RunOf, run_data_side, run_log_side}
 use Rattle.redo_drive.specs.Setups.{seated_actors}
-use Rattle.redo_drive.specs.Startable.{AreNewFollowers, MayBegin}
-use Rattle.redo_drive.specs.Views.{views_of}
 use Rattle.redo_drive.specs.declared.actor.Actor.{Actor}
 use Rattle.redo_drive.specs.declared.drive.Driven.{Driven}
 use Rattle.redo_drive.specs.declared.drive.RunEnd.{RunEnd}
@@ -43,17 +34,15 @@ use Rattle.redo_logdev.specs.Part as log
 use Rattle.redo_machine.proofs.ArchiveEnds.{have_archived, loses_by}
 use Rattle.redo_machine.proofs.EndsAs.{ends_as, turns_taken}
 use Rattle.redo_machine.proofs.StartLayout.{start_layout}
-use Rattle.redo_machine.specs.Appending.{lost_by}
+use Rattle.redo_machine.specs.Reading.{lost_by}
 use Rattle.redo_machine.specs.ByTurns.{EndsAs, NothingIsDone, RunsByTurns, turn_store}
 use Rattle.redo_machine.specs.declared.drive.Turns.{Turns}
 use Rattle.redo_ownmachine.proofs.OwnThin.{own_thin, own_turn_thin}
 use Rattle.redo_ownmachine.proofs.Places.{crew_views}
 use Rattle.redo_ownmachine.proofs.Serves.{its_data_laws, its_log_laws}
-use Rattle.redo_ownmachine.specs.OwnBegins.{OwnBeginsRun}
+use Rattle.redo_ownmachine.specs.OwnStore.{OwnBeginsRun, AskInRun, own_core_of, OwnComesFrom}
 use Rattle.redo_ownmachine.specs.OwnCrew.{crew_of, seats_of}
 use Rattle.redo_ownmachine.specs.OwnSeats.{actors_of}
-use Rattle.redo_ownmachine.specs.OwnAsking.{AskInRun, own_core_of}
-use Rattle.redo_ownmachine.specs.OwnStore.{OwnComesFrom}
 use Rattle.redo_ownmachine.specs.OwnTurns.{OwnRunEndsAs, own_run_store}
 use Rattle.redo_ownmachine.specs.declared.machine.OwnMachine.{OwnMachine}
 use Rattle.redo_store.specs.Part as store

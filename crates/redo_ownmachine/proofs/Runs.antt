@@ -1,20 +1,16 @@
 -- A run by turns whose users write for themselves, up to one of them.
-use Rattle.std.proofs.Common.{Bool, List, Option, [], ap, arith, length, refl, subst, sym, ℕ, ◌+◌, ◌<◌}
-use Rattle.std.proofs.Common.{◌∙◌, ◌∷◌, ◌≡◌, ◌≤◌}
+use Rattle.std.proofs.Common.{Bool, List, Option, [], ap, arith, length, refl, subst, sym, ℕ, ◌+◌, ◌<◌, ◌∙◌, ◌∷◌, ◌≡◌, ◌≤◌}
 use mathlib.Core.Option.{some-ne-none}
-use Rattle.model_own.specs.OwnWrites.{OwnUser}
+use Rattle.model_own.specs.{OwnUser}
 use Rattle.model_core.specs.{Given}
 use Rattle.model_core.specs.declared.ops.Step.{Step}
 use Rattle.model_running.proofs.TurnsAs.{one_more}
 use Rattle.model_running.specs.{TakesTurns, seat_of_turn}
 use Rattle.model_script.specs.{first_state}
 use Rattle.redo_archive.specs.Part.{Part}
-use Rattle.redo_disk.specs.{Call}
-use Rattle.redo_disk.specs.Seen.{Seen}
+use Rattle.redo_disk.specs.{Call, Seen}
 use Rattle.redo_drive.proofs.Viewed.{length_views}
-use Rattle.redo_drive.specs.Calls.{CallOnBoth}
-use Rattle.redo_drive.specs.Playing.{RunOf}
-use Rattle.redo_drive.specs.Views.{views_of}
+use Rattle.redo_drive.specs.{CallOnBoth, RunOf, views_of}
 use Rattle.redo_drive.specs.declared.actor.Actor.{Actor}
 use Rattle.redo_drive.specs.declared.drive.RunEnd.TheVariants as ran
 use Rattle.redo_machine.proofs.UserSeats.{first_is_least}
@@ -23,8 +19,7 @@ use Rattle.redo_ownmachine.proofs.OpenSeats.{all_ended, first_open, users_ended}
 use Rattle.redo_ownmachine.specs.OpenOwn.{IsFirstOpenUser, UsersHaveEnded}
 use Rattle.redo_ownmachine.specs.OwnCrew.{HasSameSeats, seats_of}
 use Rattle.redo_ownmachine.specs.OwnSeats.{actors_of}
-use Rattle.redo_ownmachine.specs.OwnAsking.{own_core_of}
-use Rattle.redo_ownmachine.specs.OwnStore.{OwnComesFrom, OwnIsOnRun, OwnRunsWith, TakesOwnTurn}
+use Rattle.redo_ownmachine.specs.OwnStore.{own_core_of, OwnComesFrom, OwnIsOnRun, OwnRunsWith, TakesOwnTurn}
 use Rattle.redo_ownmachine.specs.OwnTurns.{OwnRunEndsAs, own_run_store}
 use Rattle.redo_ownmachine.specs.declared.machine.OwnMachine.{OwnMachine}
 

@@ -3,23 +3,21 @@
 use Rattle.std.proofs.Common.{Bool, ap, cond, false, refl, subst, sym, true, ℕ, ⊎_elim, ◌∙◌, ◌≡◌, is_some}
 use lib.ListN.{get_elem?}
 use mathlib.Core.Option.{some}
-use Rattle.model_core.specs.Actors as model
-use Rattle.model_core.specs.AnswerFits.{AnswerFits}
-use Rattle.model_core.specs.LogSide.{LogSide}
-use Rattle.model_core.specs.{answer_of, flusher_op, lsn, next, ReaderState, user_op, writer_op}
+use Rattle.model_core.specs.States as model
+use Rattle.model_core.specs.{AnswerFits, LogSide, answer_of, flusher_op, lsn, next, ReaderState, user_op, writer_op}
 use Rattle.model_core.specs.declared.ops.Answer.{Answer}
 use Rattle.model_core.specs.declared.ops.Op.{Op}
 use Rattle.model_core.specs.declared.ops.Op.TheVariants as op
 use Rattle.model_core.specs.declared.words.Word.TheVariants as word
 use Rattle.model_logcore.specs.LogLaws.{LogLaws}
-use Rattle.model_own.specs.OwnWrites.{LogWork, OwnUser, errand_lends, errand_op, own_lends, own_next}
-use Rattle.model_own.specs.ErrandFits.{ErrandFits, has_work}
+use Rattle.model_own.specs.{LogWork, OwnUser, errand_lends, errand_op, own_lends, own_next, has_work}
+use Rattle.model_own.specs.ErrandFits.{ErrandFits}
 use Rattle.model_own.specs.declared.errand.ErrandStep.{ErrandStep}
 use Rattle.model_own.specs.declared.errand.ErrandStep.TheVariants as errand_step
 use Rattle.model_ownrun.proofs.Errands.{in_hand}
 use Rattle.model_ownrun.proofs.Seats.{flusher_seat, flusher_there, user_there, writer_seat, writer_there}
 use Rattle.model_pagecore.specs.DataLaws.{DataLaws}
-use Rattle.redo_disk.specs.Seen.{Seen}
+use Rattle.redo_disk.specs.{Seen}
 use Rattle.redo_drive.proofs.DataPartLaws.{data_laws}
 use Rattle.redo_drive.proofs.Filled.{IsNoRead, reader_or_no_read}
 use Rattle.redo_drive.proofs.LogPartLaws.{log_laws}
@@ -29,9 +27,7 @@ use Rattle.redo_drive.proofs.MayTurn.{serves_other}
 use Rattle.redo_drive.proofs.TurnsOf.{some_run}
 use Rattle.redo_drive.specs.DataPartSide as data_part
 use Rattle.redo_drive.specs.LogPartSide as log_part
-use Rattle.redo_drive.specs.Lists.{lists_of}
-use Rattle.redo_drive.specs.Playing.{HasWholePages, IsPlayable, IsPlayed, RunOf, run_data_side, run_log_side}
-use Rattle.redo_drive.specs.Turning.{MayServe}
+use Rattle.redo_drive.specs.{lists_of, HasWholePages, IsPlayable, IsPlayed, RunOf, run_data_side, run_log_side, MayServe}
 use Rattle.redo_drive.specs.declared.parts.Parts.{Parts}
 use Rattle.redo_ownmachine.specs.OwnSeats.{OwnSeats, actors_of}
 use Rattle.redo_ownmachine.specs.OwnStore.{OwnRunsWith}

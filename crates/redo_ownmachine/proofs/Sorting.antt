@@ -1,12 +1,11 @@
 -- The actors of a run are sorted into users, writer, flusher and others.
-use Rattle.std.proofs.Common.{List, None, Option, Some, [], ap, append-nil, append_assoc, arith, false, length, map, refl}
-use Rattle.std.proofs.Common.{subst, suc, sym, zero, ◌++◌, ◌∙◌, ◌∷◌, ◌≡◌}
+use Rattle.std.proofs.Common.{List, None, Option, Some, [], ap, append-nil, append_assoc, arith, false, length, map, refl, subst, suc, sym, zero, ◌++◌, ◌∙◌, ◌∷◌, ◌≡◌}
 use mathlib.Core.Option.{some-injective, some-ne-none}
-use Rattle.model_core.specs.Actors as model
+use Rattle.model_core.specs.States as model
 use Rattle.model_core.specs.{FlusherState, UserState, WriterState}
-use Rattle.model_own.specs.OwnWrites.{OwnUser}
+use Rattle.model_own.specs.{OwnUser}
 use Rattle.model_own.specs.declared.errand.ErrandStep.TheVariants as errand_step
-use Rattle.redo_drive.specs.Views.{view_of, views_of}
+use Rattle.redo_drive.specs.{view_of, views_of}
 use Rattle.redo_drive.specs.declared.actor.Actor.{Actor}
 use Rattle.redo_drive.specs.declared.actor.Actor.TheVariants as own
 use Rattle.redo_ownmachine.specs.OwnCrew.{AreOthers, HaveWorkers, IsOther, crew}

@@ -1,27 +1,22 @@
 -- A machine at the beginning of its run, with what its followers have got, and with its archive; and its room at the end.
-use Rattle.std.proofs.Common.{Bool, List, Option, [], ℕ, ◌≤◌, arith, is_some, refl, subst, sym, ◌∙◌, ◌≡◌, ap, length}
-use Rattle.std.proofs.Common.{vec_capacity, Global, Vec}
+use Rattle.std.proofs.Common.{Bool, List, Option, [], ℕ, ◌≤◌, arith, is_some, refl, subst, sym, ◌∙◌, ◌≡◌, ap, length, vec_capacity, Global, Vec}
 use Rattle.std.specs.Prelude.{IfSome}
-use Rattle.model_core.specs.Actors as model
+use Rattle.model_core.specs.States as model
 use Rattle.model_core.specs.{Given}
 use Rattle.model_report.specs.declared.entry.Entry.{Entry}
 use Rattle.model_script.specs.declared.script.ScriptLine.{ScriptLine}
 use Rattle.redo_archive.specs.Part.{Part}
-use Rattle.redo_disk.specs.{Call}
-use Rattle.redo_disk.specs.Seen.{Seen}
-use Rattle.redo_drive.specs.Archiving.{IsBeside}
-use Rattle.redo_drive.specs.Startable.{AreNewFollowers, IsNewArchive, MayBegin}
-use Rattle.redo_drive.specs.Views.{views_of}
+use Rattle.redo_disk.specs.{Call, Seen}
+use Rattle.redo_drive.specs.{IsBeside, AreNewFollowers, IsNewArchive, MayBegin, views_of}
 use Rattle.redo_drive.specs.declared.actor.Actor.{Actor}
 use Rattle.redo_drive.specs.declared.parts.Parts.{Parts}
 use Rattle.redo_follow.specs.Following.{Following}
 use Rattle.redo_machine.proofs.ArchiveStarts as starts
-use Rattle.redo_machine.specs.Appending.{AreNumbered}
+use Rattle.redo_machine.specs.Reading.{AreNumbered}
 use Rattle.redo_ownmachine.proofs.Comes.{HasComeWith}
 use Rattle.redo_ownmachine.proofs.Places.{crew_views}
-use Rattle.redo_ownmachine.specs.OwnBegins.{OwnBeginsRun}
+use Rattle.redo_ownmachine.specs.OwnStore.{OwnBeginsRun, OwnComesFrom, OwnIsOnRun, OwnRunsWith}
 use Rattle.redo_ownmachine.specs.OwnCrew.{HasRoom, HasSameSeats, crew_of, seats_of}
-use Rattle.redo_ownmachine.specs.OwnStore.{OwnComesFrom, OwnIsOnRun, OwnRunsWith}
 use Rattle.redo_ownmachine.specs.declared.machine.OwnMachine.{OwnMachine}
 use Rattle.redo_store.specs.declared.opened.Opened.{Opened}
 

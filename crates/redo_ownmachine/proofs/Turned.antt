@@ -1,28 +1,20 @@
 -- What was played for whoever had its turn is a turn of the definition, and the run goes on.
-use Rattle.std.proofs.Common.{Bool, List, ap, arith, get_or, inl, inr, length, refl, set, subst, sym, ℕ, ⊎_elim, ◌+◌, ◌-◌, ◌<◌, ◌∙◌}
-use Rattle.std.proofs.Common.{◌≡◌, ◌≤◌, ◌⊎◌}
+use Rattle.std.proofs.Common.{Bool, List, ap, arith, get_or, inl, inr, length, refl, set, subst, sym, ℕ, ⊎_elim, ◌+◌, ◌-◌, ◌<◌, ◌∙◌, ◌≡◌, ◌≤◌, ◌⊎◌}
 use Rattle.std.proofs.lemmas.List.{map-set}
 use lib.ListN.{get_elem?}
 use mathlib.Core.Option.{some, some-injective}
-use Rattle.model_core.specs.Actors as model
-use Rattle.model_core.specs.DataSide.{DataSide}
-use Rattle.model_core.specs.{filled, Given, HasLost, lent, next, took}
-use Rattle.model_core.specs.LogSide.{LogSide}
-use Rattle.model_core.specs.Turn.{Turn}
+use Rattle.model_core.specs.States as model
+use Rattle.model_core.specs.{DataSide, LogSide, filled, Given, HasLost, lent, next, took}
+use Rattle.model_core.specs.Program.{Turn}
 use Rattle.model_core.specs.declared.ops.Answer.{Answer}
 use Rattle.model_core.specs.declared.ops.Step.{Step}
 use Rattle.model_core.specs.declared.ops.Step.TheVariants as step_is
-use Rattle.model_own.specs.OwnTurn.{OtherTurn, OwnTurn, UserTurn, all_actors}
-use Rattle.model_own.specs.OwnWrites.{LogWork, OwnUser, own_lends, own_next}
+use Rattle.model_own.specs.{OtherTurn, OwnTurn, UserTurn, all_actors, LogWork, OwnUser, own_lends, own_next}
 use Rattle.model_ownrun.proofs.AloneKeeps.{alone_turns}
 use Rattle.model_ownrun.proofs.OwnKeeps.{own_turn_keeps}
 use Rattle.model_ownrun.proofs.OwnSeats.{own_turn_keeps_seats}
-use Rattle.redo_disk.specs.{Call}
-use Rattle.redo_disk.specs.Seen.{Seen}
-use Rattle.redo_drive.specs.Asking.{AskOfBoth}
-use Rattle.redo_drive.specs.Playing.{HasSamePages, RunOf, run_data_side, run_log_side}
-use Rattle.redo_drive.specs.Turning.{FailedHasCause, IsServed, code_in, core_of}
-use Rattle.redo_drive.specs.Views.{view_of, views_of}
+use Rattle.redo_disk.specs.{Call, Seen}
+use Rattle.redo_drive.specs.{AskOfBoth, HasSamePages, RunOf, run_data_side, run_log_side, FailedHasCause, IsServed, code_in, core_of, view_of, views_of}
 use Rattle.redo_drive.specs.declared.actor.Actor.{Actor}
 use Rattle.redo_drive.specs.declared.parts.Parts.{Parts}
 use Rattle.redo_drive.proofs.Viewed.{view_at}
@@ -30,8 +22,7 @@ use Rattle.redo_ownmachine.proofs.Failing.{own_failed_turn_has_some}
 use Rattle.redo_ownmachine.proofs.Places.{behind, behind_seat, other_at, other_put, sits_below}
 use Rattle.redo_ownmachine.proofs.Serves.{its_data_laws, its_log_laws}
 use Rattle.redo_ownmachine.specs.OwnSeats.{OwnSeats, actors_of}
-use Rattle.redo_ownmachine.specs.OwnAsking.{own_core_of}
-use Rattle.redo_ownmachine.specs.OwnStore.{OwnAlone, OwnRunsWith, TakesOwnTurn}
+use Rattle.redo_ownmachine.specs.OwnStore.{own_core_of, OwnAlone, OwnRunsWith, TakesOwnTurn}
 use Rattle.redo_ownmachine.specs.Serving.{IsUserServed}
 
 module _ {L D : Type 0} (log_seen : L → Seen) (data_seen : D → Seen) (run : RunOf L D) (old new : Parts L D)

@@ -1,12 +1,10 @@
 -- THE LOG OF A RUN IS THAT OF ITS USERS: where each number of their groups has a sum that is no less, the log only goes on.
-use Rattle.std.proofs.Common.{Bool, List, [], ap, arith, cond, eqb, length, refl, subst, suc, sym, ℕ, ◌++◌, ◌+◌, ◌-◌}
-use Rattle.std.proofs.Common.{◌<◌, ◌∙◌, ◌∷◌, ◌≡◌, ◌≢◌, ◌≤◌, false, nat_le}
+use Rattle.std.proofs.Common.{Bool, List, [], ap, arith, cond, eqb, length, refl, subst, suc, sym, ℕ, ◌++◌, ◌+◌, ◌-◌, ◌<◌, ◌∙◌, ◌∷◌, ◌≡◌, ◌≢◌, ◌≤◌, false, nat_le}
 use Rattle.std.proofs.lemmas.Bool.{eq-eqb, ne_eqb}
 use Rattle.std.proofs.lemmas.Bool.Decides.{nat_tests}
 use lib.ListN.{get_elem?}
 use mathlib.Core.Option.{some}
-use Rattle.model_core.specs.{end_of, Entry, Given, Line, line_at, lsn, PageChange, sum_of, Tiles}
-use Rattle.model_core.specs.Setup.{Setup}
+use Rattle.model_core.specs.{end_of, Entry, Given, Line, line_at, lsn, PageChange, sum_of, Tiles, Setup}
 use Rattle.model_running.specs.ReadHalf.{groups_upto}
 
 -- a number of the groups that start there

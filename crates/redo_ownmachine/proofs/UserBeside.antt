@@ -1,23 +1,18 @@
 -- A turn of a user leaves the archive beside the actors of its run.
-use Rattle.std.proofs.Common.{Bool, List, None, Option, Some, [], ap, arith, length, refl, set, slice_index, subst, suc}
-use Rattle.std.proofs.Common.{sym, zero, ℕ, ⊎_elim, ◌++◌, ◌+◌, ◌∙◌, ◌∷◌, ◌≡◌, ◌≤◌}
+use Rattle.std.proofs.Common.{Bool, List, None, Option, Some, [], ap, arith, length, refl, set, slice_index, subst, suc, sym, zero, ℕ, ⊎_elim, ◌++◌, ◌+◌, ◌∙◌, ◌∷◌, ◌≡◌, ◌≤◌}
 use Rattle.std.proofs.lemmas.List.{length-set}
 use lib.ListN.{get_elem?}
 use mathlib.Core.Option.{some, some-injective, some-ne-none}
-use Rattle.model_core.specs.Actors as model
-use Rattle.model_core.specs.DataSide.{DataSide}
-use Rattle.model_core.specs.LogSide.{LogSide}
+use Rattle.model_core.specs.States as model
+use Rattle.model_core.specs.{DataSide, LogSide, Entry, flat, layout_of, lsn, next, ReaderState, shared_left, SharedWords, words_left}
 use Rattle.model_core.specs.declared.ops.Step.{Step}
 use Rattle.model_core.specs.declared.words.Layout.{Layout}
-use Rattle.model_core.specs.{Entry, flat, layout_of, lsn, next, ReaderState, shared_left, SharedWords, words_left}
 use Rattle.model_ends.proofs.Sizes.{sn_within}
 use Rattle.model_ends.specs.Bound.{bytes_of, last_lsn}
 use Rattle.model_log.specs.{IsRunOf}
 use Rattle.model_log.specs.declared.group.Whole.{Whole}
-use Rattle.model_logcore.specs.{sum_over_actors}
-use Rattle.model_logcore.specs.LogHalf.{lengths}
-use Rattle.model_own.specs.OwnTurn.{all_actors}
-use Rattle.model_own.specs.OwnWrites.{LogWork, OwnUser, own_next}
+use Rattle.model_logcore.specs.{sum_over_actors, lengths}
+use Rattle.model_own.specs.{all_actors, LogWork, OwnUser, own_next}
 use Rattle.model_ownrun.proofs.OwnSeats.{own_same}
 use Rattle.model_running.proofs.ArchiverStays.{rises}
 use Rattle.model_running.proofs.FlatWords.{flat_left}
@@ -27,14 +22,10 @@ use Rattle.model_running.specs.Histories.{AreWholesOf}
 use Rattle.redo_archive.specs.Part.{Part, PartArchives}
 use Rattle.redo_archiver.proofs.Longer.{part-longer}
 use Rattle.redo_archiver.specs.{KeepsPace}
-use Rattle.redo_disk.specs.{Call}
-use Rattle.redo_disk.specs.Seen.{Seen}
+use Rattle.redo_disk.specs.{Call, Seen}
 use Rattle.redo_drive.proofs.ArchiveGroups.{front_of}
 use Rattle.redo_drive.proofs.ArchiveTurns.{flushed_reserved}
-use Rattle.redo_drive.specs.Archiving.{HasComeTo, IsBeside, StandsBeside}
-use Rattle.redo_drive.specs.Lists.{lists_of}
-use Rattle.redo_drive.specs.Playing.{RunOf, run_data_side, run_log_side}
-use Rattle.redo_drive.specs.Views.{views_of}
+use Rattle.redo_drive.specs.{HasComeTo, IsBeside, StandsBeside, lists_of, RunOf, run_data_side, run_log_side, views_of}
 use Rattle.redo_drive.specs.declared.actor.Actor.{Actor}
 use Rattle.redo_drive.specs.declared.parts.Parts.{Parts}
 use Rattle.redo_ownmachine.proofs.From.{log_on, told_earlier}

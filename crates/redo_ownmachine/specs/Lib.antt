@@ -1,6 +1,4 @@
 pub mod OpenOwn
-pub mod OwnAsking
-pub mod OwnBegins
 pub mod OwnCrew
 pub mod OwnSeats
 pub mod OwnStore

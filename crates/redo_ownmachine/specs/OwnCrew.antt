@@ -1,8 +1,8 @@
 -- The actors of a machine whose users write for themselves, as the machine keeps them and as its run leaves them.
 use Rattle.std.specs.Prelude.{List, [], length, map, vec_capacity, ◌++◌, ◌+◌, ◌∷◌, ◌≡◌, ◌≤◌}
 use Rattle.model_core.specs.{FlusherState, UserState, WriterState}
-use Rattle.model_own.specs.OwnWrites.{LogWork, OwnUser}
-use Rattle.redo_drive.specs.Views.{views_of}
+use Rattle.model_own.specs.{LogWork, OwnUser}
+use Rattle.redo_drive.specs.{views_of}
 use Rattle.redo_drive.specs.declared.actor.Actor.{Actor}
 use Rattle.redo_drive.specs.declared.actor.Actor.TheVariants as own
 use Rattle.redo_ownmachine.specs.OwnSeats.{OwnSeats}

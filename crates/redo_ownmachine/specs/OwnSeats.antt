@@ -1,8 +1,7 @@
 -- Who is in a store whose users write for themselves.
 use Rattle.std.specs.Prelude.{List}
-use Rattle.model_core.specs.Actors as model
-use Rattle.model_own.specs.OwnTurn.{all_actors}
-use Rattle.model_own.specs.OwnWrites.{LogWork, OwnUser}
+use Rattle.model_core.specs.States as model
+use Rattle.model_own.specs.{all_actors, LogWork, OwnUser}
 pub use Rattle.model_ownrun.specs.OwnRuns.{AreAtHome}
 
 -- the users, the log's work, and the other actors, as the definitions see them

@@ -2,13 +2,12 @@
 use Rattle.std.specs.Prelude.{ℕ}
 use Rattle.model_ownrun.specs.OwnRuns.{own_store}
 use Rattle.model_running.specs.{TurnStore}
-use Rattle.redo_disk.specs.{Call}
-use Rattle.redo_disk.specs.Seen.{Seen}
+use Rattle.redo_disk.specs.{Call, Seen}
 use Rattle.redo_drive.specs.Sides.{RunOf, run_data_side, run_log_side}
 use Rattle.redo_drive.specs.declared.drive.RunEnd.{RunEnd}
 use Rattle.redo_drive.specs.declared.parts.Parts.{Parts}
 use Rattle.redo_machine.specs.ByTurns.{EndsAs}
-use Rattle.redo_ownmachine.specs.OwnAsking.{AskInRun, own_core_of}
+use Rattle.redo_ownmachine.specs.OwnStore.{AskInRun, own_core_of}
 use Rattle.redo_ownmachine.specs.OwnSeats.{OwnSeats}
 
 module _ {L D : Type 0} (log_seen : L → Seen) (log_gives : L → Call → L → Type 0) (data_seen : D → Seen)

@@ -4,11 +4,10 @@ use Rattle.model_core.specs.{answer_of}
 use Rattle.model_core.specs.declared.ops.Answer.{Answer}
 use Rattle.model_core.specs.declared.ops.Op.TheVariants as op
 use Rattle.model_core.specs.declared.ops.Step.{Step}
-use Rattle.model_own.specs.OwnWrites.{LogWork, OwnUser, own_goes_on, own_lends, own_next, own_step_of}
+use Rattle.model_own.specs.{LogWork, OwnUser, own_goes_on, own_lends, own_next, own_step_of}
 use Rattle.model_own.specs.ErrandFits.{ErrandFits}
-use Rattle.redo_disk.specs.Seen.{Seen}
-use Rattle.redo_drive.specs.Lists.{lists_of}
-use Rattle.redo_drive.specs.Playing.{HasWholePages, IsPlayable, IsPlayed, RunOf}
+use Rattle.redo_disk.specs.{Seen}
+use Rattle.redo_drive.specs.{lists_of, HasWholePages, IsPlayable, IsPlayed, RunOf}
 use Rattle.redo_drive.specs.declared.parts.Parts.{Parts}
 use Rattle.redo_ownuser.specs.OwnFits.{OwnAnswerFits, WorkGoesOn}
 use Rattle.redo_words.specs.{Lends}

@@ -1,10 +1,8 @@
 // The drive by turns, where users write for themselves.
 ghost use Rattle.std.specs.Prelude.{◌≡◌, IfErr, IfOk, IfSome, is_some, length, true};
-ghost use Rattle.redo_drive.specs.Archived.{HaveArchived};
-ghost use Rattle.redo_drive.specs.Startable.{AreNewFollowers, IsNewArchive, MayBegin};
+ghost use Rattle.redo_drive.specs.{HaveArchived, AreNewFollowers, IsNewArchive, MayBegin, views_of};
 ghost use Rattle.redo_drive.specs.Drive.{Owes};
 ghost use Rattle.redo_drive.specs.Followed.{HaveFollowed};
-ghost use Rattle.redo_drive.specs.Views.{views_of};
 ghost use Rattle.redo_machine.specs.ByTurns.{RunsByTurns};
 
 use crate::machine::OwnMachine;

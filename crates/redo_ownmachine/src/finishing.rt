@@ -1,12 +1,9 @@
 // A store after its run, where users wrote for themselves.
-ghost use Rattle.std.specs.Prelude.{◌≡◌, ◌≤◌, [], Bool, length, slice_index, vec_capacity};
-ghost use Rattle.model_core.specs.Layout.{failed_at};
+ghost use Rattle.std.specs.Prelude.{◌≡◌, ◌≤◌, [], Bool, false, length, slice_index, vec_capacity};
+ghost use Rattle.model_core.specs.{failed_at};
 ghost use Rattle.model_running.specs.{history_of, marks_in, word_marks};
-ghost use Rattle.redo_drive.specs.History.{ListsInOrder};
-ghost use Rattle.redo_drive.specs.Playing.{RunOf};
-ghost use Rattle.redo_drive.specs.Running.{RunsWith};
-ghost use Rattle.redo_drive.specs.Views.{views_of};
-ghost use Rattle.redo_machine.specs.Appending.{lost_by};
+ghost use Rattle.redo_drive.specs.{ListsInOrder, views_of, RunOf, RunsWith};
+ghost use Rattle.redo_machine.specs.Reading.{lost_by};
 ghost use Rattle.redo_ownmachine.specs.OwnCrew.{HasRoom, crew_of};
 ghost use Rattle.redo_ownmachine.specs.OwnStore.{OwnIsOnRun};
 
@@ -29,10 +26,10 @@ impl<L: Sectors, D: Sectors, A: Sectors, R: Receiver + Drop> OwnMachine<L, D, A,
         ensures code { result.0.code ≡ slice_index self.parts.words.words failed_at }
         ensures marks { result.0.marks ≡ marks_in self.parts.words.words }
         ensures history { (run : RunOf L D) (archive : Bool) (runs : RunsWith L.seen D.seen run archive self.parts (views_of (crew_of self)))
-            → self.entries.items ≡ [] → length runs.running.log_ghost.log ≤ vec_capacity self.entries
+            → run.live ≡ false → self.entries.items ≡ [] → length runs.running.log_ghost.log ≤ vec_capacity self.entries
             → result.0.history ≡ history_of runs.running.log_ghost.answered (word_marks runs.running.shared) runs.running.log_ghost.log }
         ensures listed { (run : RunOf L D) (archive : Bool) (runs : RunsWith L.seen D.seen run archive self.parts (views_of (crew_of self)))
-            → self.entries.items ≡ [] → length runs.running.log_ghost.log ≤ vec_capacity self.entries
+            → run.live ≡ false → self.entries.items ≡ [] → length runs.running.log_ghost.log ≤ vec_capacity self.entries
             → ListsInOrder result.0.marks (views_of (crew_of self)) result.0.history }
     {
         let OwnMachine {

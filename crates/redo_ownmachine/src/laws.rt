@@ -3,8 +3,7 @@
 ghost use Rattle.std.specs.Prelude.{Bool, ℕ, ◌<◌};
 ghost use Rattle.model_core.specs.declared.ops.Step.{Step};
 ghost use Rattle.model_running.specs.{HasWatermarks};
-ghost use Rattle.redo_drive.specs.Playing.{RunOf, run_data_side, run_log_side};
-ghost use Rattle.redo_drive.specs.Turning.{code_in, core_of};
+ghost use Rattle.redo_drive.specs.{RunOf, run_data_side, run_log_side, code_in, core_of};
 ghost use Rattle.redo_drive.specs.declared.parts.Parts.{Parts};
 ghost use Rattle.redo_ownmachine.specs.OwnSeats.{OwnSeats, actors_of};
 ghost use Rattle.redo_ownmachine.specs.OwnStore.{OwnRunsWith, TakesOwnTurn};

@@ -1,8 +1,7 @@
 // A running store whose users write for themselves.
 ghost use Rattle.std.specs.Prelude.{◌≡◌, IfErr, IfOk, IfSome, is_some};
-ghost use Rattle.redo_drive.specs.Startable.{AreNewFollowers, IsNewArchive, MayBegin};
-ghost use Rattle.redo_ownmachine.specs.OwnBegins.{OwnBeginsRun};
-ghost use Rattle.redo_ownmachine.specs.OwnStore.{OwnIsOnRun};
+ghost use Rattle.redo_drive.specs.{AreNewFollowers, IsNewArchive, MayBegin};
+ghost use Rattle.redo_ownmachine.specs.OwnStore.{OwnBeginsRun, OwnIsOnRun};
 
 use crate::seats::{Seats, take_seats};
 use model_report::Entry;

@@ -1,8 +1,7 @@
 // A run by turns, where users write for themselves.
 ghost use Rattle.std.specs.Prelude.{Bool, List, Option};
 ghost use Rattle.redo_archive.specs.Part.{Part};
-ghost use Rattle.redo_drive.specs.Calls.{CallOnBoth};
-ghost use Rattle.redo_drive.specs.Playing.{RunOf};
+ghost use Rattle.redo_drive.specs.{CallOnBoth, RunOf};
 ghost use Rattle.redo_drive.specs.declared.actor.Actor.{Actor as TheActor};
 ghost use Rattle.redo_ownmachine.specs.OwnCrew.{HasSameSeats, seats_of};
 ghost use Rattle.redo_ownmachine.specs.OwnStore.{OwnComesFrom, OwnIsOnRun, OwnRunsWith};

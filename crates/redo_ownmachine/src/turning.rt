@@ -1,12 +1,9 @@
 // One turn, where users write for themselves.
 ghost use Rattle.std.specs.Prelude.{◌≡◌, ◌≢◌, ◌<◌, ◌+◌, ◌⊎◌, ℕ, Bool, List, Option, length};
 ghost use Rattle.model_core.specs.{HasLost};
-ghost use Rattle.model_own.specs.OwnWrites.{own_lends, own_next};
+ghost use Rattle.model_own.specs.{own_lends, own_next};
 ghost use Rattle.redo_archive.specs.Part.{Part};
-ghost use Rattle.redo_drive.specs.Asking.{AskOfBoth};
-ghost use Rattle.redo_drive.specs.Calls.{CallOnBoth};
-ghost use Rattle.redo_drive.specs.Playing.{HasSamePages, RunOf};
-ghost use Rattle.redo_drive.specs.Turning.{FailedHasCause, code_in};
+ghost use Rattle.redo_drive.specs.{AskOfBoth, CallOnBoth, HasSamePages, RunOf, FailedHasCause, code_in};
 ghost use Rattle.redo_drive.specs.declared.actor.Actor.{Actor as TheActor};
 ghost use Rattle.redo_ownmachine.specs.OwnCrew.{HasSameSeats, seats_of};
 ghost use Rattle.redo_ownmachine.specs.OwnSeats.{actors_of};

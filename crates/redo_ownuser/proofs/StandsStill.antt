@@ -1,9 +1,6 @@
 -- On an errand a user that writes for itself comes no nearer to its link.
 use Rattle.std.proofs.Common.{Bool, ap, cond, eqb, false, length, refl, subst, sym, true, ℕ, ◌==◌, ◌∙◌, ◌≡◌, ◌≢◌}
-use Rattle.model_core.specs.{advance_next, answered, can_link, changes, flusher_took, FlusherState, frees}
-use Rattle.model_core.specs.{has_passed, has_room, has_space, heard, old_of, stays_put, tail_of, user_ending}
-use Rattle.model_core.specs.{user_program, user_took, user_waits, UserState, with_link_room, with_mark}
-use Rattle.model_core.specs.{without_link_room, writer_took, WriterState}
+use Rattle.model_core.specs.{advance_next, answered, can_link, changes, flusher_took, FlusherState, frees, has_passed, has_room, has_space, heard, old_of, stays_put, tail_of, user_ending, user_program, user_took, user_waits, UserState, with_link_room, with_mark, without_link_room, writer_took, WriterState}
 use Rattle.model_core.specs.ActorProgram.{opposite}
 use Rattle.model_core.specs.declared.ops.Answer.{Answer}
 use Rattle.model_core.specs.declared.ops.Answer.TheVariants as answer
@@ -15,9 +12,7 @@ use Rattle.model_core.specs.declared.steps.UserStep.{UserStep}
 use Rattle.model_core.specs.declared.steps.UserStep.TheVariants as user_step
 use Rattle.model_core.specs.declared.steps.WriterStep.{WriterStep}
 use Rattle.model_core.specs.declared.steps.WriterStep.TheVariants as writer_step
-use Rattle.model_own.specs.OwnWrites.{after_flusher, after_writer, begins_again, errand_took, errand_waits, helps_at}
-use Rattle.model_own.specs.OwnWrites.{keeps_helped, loads_again, LogWork, own_checked, own_goes_on, own_step_of}
-use Rattle.model_own.specs.OwnWrites.{own_stepped, OwnUser, sets_out, written}
+use Rattle.model_own.specs.{after_flusher, after_writer, begins_again, errand_took, errand_waits, helps_at, keeps_helped, loads_again, LogWork, own_checked, own_goes_on, own_step_of, own_stepped, OwnUser, sets_out, written}
 use Rattle.model_own.specs.declared.errand.ErrandStep.{ErrandStep}
 use Rattle.model_own.specs.declared.errand.ErrandStep.TheVariants as errand_step
 use Rattle.redo_ownuser.specs.OwnFits.{ends_as}

@@ -1,12 +1,10 @@
 -- A user's own step, where it doesn't check for a failure: its state, and whether it waits.
 use Rattle.std.proofs.Common.{Bool, ap, cond, false, refl, subst, sym, true, ℕ, ◌==◌, ◌∙◌, ◌≡◌}
 use Rattle.model_own.proofs.SetsOut.{out_at}
-use Rattle.model_own.specs.OwnWrites.{OwnUser, keeps_helped, loads_again, own_stepped, sets_out}
-use Rattle.model_own.specs.ErrandFits.{MayHelpAt}
+use Rattle.model_own.specs.{OwnUser, keeps_helped, loads_again, own_stepped, sets_out, MayHelpAt}
 use Rattle.model_own.specs.declared.errand.ErrandStep.TheVariants as errand_step
 use Rattle.model_core.proofs.Rests.{rests}
-use Rattle.model_core.specs.{Actor, checked_of, heard, next, old_of, step_of, took, user_ending, user_program, user_took}
-use Rattle.model_core.specs.{user_waits, UserState}
+use Rattle.model_core.specs.{Actor, checked_of, heard, next, old_of, step_of, took, user_ending, user_program, user_took, user_waits, UserState}
 use Rattle.model_core.specs.declared.ops.Answer.{Answer}
 use Rattle.model_core.specs.declared.ops.Answer.TheVariants as answer
 use Rattle.model_core.specs.declared.ops.Op.TheVariants as op
@@ -14,7 +12,7 @@ use Rattle.model_core.specs.declared.ops.Step.{Step}
 use Rattle.model_core.specs.declared.ops.Step.TheVariants as step
 use Rattle.model_core.specs.declared.steps.UserStep.{UserStep}
 use Rattle.model_core.specs.declared.steps.UserStep.TheVariants as user_step
-use Rattle.model_core.specs.Actors as actor
+use Rattle.model_core.specs.States as actor
 use Rattle.redo_ownuser.specs.OwnFits.{ends_as, is_idle}
 
 -- who is on an errand hasn't ended

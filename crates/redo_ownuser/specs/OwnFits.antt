@@ -2,14 +2,13 @@
 use Rattle.std.specs.Prelude.{Bool, cond, false, true, ◌≡◌}
 use Rattle.model_core.specs.declared.ops.Step.{Step}
 use Rattle.model_core.specs.declared.ops.Step.TheVariants as step
-use Rattle.model_core.specs.{user_ending}
-use Rattle.model_core.specs.AnswerFits.{AnswerFits}
+use Rattle.model_core.specs.{user_ending, AnswerFits}
 use Rattle.model_core.specs.declared.ops.Answer.{Answer}
 use Rattle.model_core.specs.declared.ops.Answer.TheVariants as answer
-use Rattle.model_own.specs.OwnWrites.{LogWork, OwnUser}
+use Rattle.model_own.specs.{LogWork, OwnUser}
 use Rattle.model_own.specs.declared.errand.ErrandStep.{ErrandStep}
 use Rattle.model_own.specs.declared.errand.ErrandStep.TheVariants as errand_step
-use Rattle.model_core.specs.Actors as actor
+use Rattle.model_core.specs.States as actor
 
 -- neither the writer nor the flusher checks for a failure while its part is done
 abbrev pub WorkGoesOn : ErrandStep → LogWork → Type 0

@@ -1,14 +1,11 @@
 // A user that writes for itself.
 ghost use Rattle.std.specs.Prelude.{◌≡◌, cond, false, true};
-ghost use Rattle.model_core.specs.Actors as actor;
-ghost use Rattle.model_core.specs.AnswerFits.{AnswerFits};
-ghost use Rattle.model_core.specs.{heard, next, step_of, user_took};
+ghost use Rattle.model_core.specs.States as actor;
+ghost use Rattle.model_core.specs.{AnswerFits, heard, next, step_of, user_took};
 ghost use Rattle.model_core.specs.declared.ops.Op.TheVariants as op;
-ghost use Rattle.model_own.specs.OwnWrites.{errand_took, errand_waits, has_failed, own_goes_on};
-ghost use Rattle.model_own.specs.ErrandFits.{ErrandFits, MayHelpAt};
-ghost use Rattle.model_own.specs.OwnWrites.{own_lends, own_next, own_step_of, own_stepped, sets_out, waiting, written};
+ghost use Rattle.model_own.specs.{errand_took, errand_waits, has_failed, own_goes_on, own_lends, own_next, own_step_of, own_stepped, sets_out, waiting, written, MayHelpAt, has_work};
+ghost use Rattle.model_own.specs.ErrandFits.{ErrandFits};
 ghost use Rattle.model_own.specs.OwnWrites as model;
-ghost use Rattle.model_own.specs.ErrandFits.{has_work};
 ghost use Rattle.redo_ownuser.specs.OwnFits.{AloneFits, ErrandAnswerFits, OwnAnswerFits, WorkGoesOn, ends_as, is_idle};
 ghost use Rattle.redo_ownuser.specs.OwnLink.{ComesNearer, ComesNearerAlone};
 ghost use Rattle.redo_useractor.specs.ToLink.{to_link};
@@ -22,7 +19,7 @@ use redo_words::{Answer, Lent, Op, Step, Word, old_of};
 use std::marker::Model;
 
 /// A user that writes for itself: in place of a wait for the log it goes on an errand. Contracts see its state.
-#[derive(Debug, Drop)]
+#[derive(Drop)]
 pub struct OwnUser {
     pub(crate) user: UserActor,
     pub(crate) errand: ErrandStep,

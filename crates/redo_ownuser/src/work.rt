@@ -1,6 +1,6 @@
 // The log's work: the states of the writer and of the flusher.
 ghost use Rattle.std.specs.Prelude.{◌≡◌, cond};
-ghost use Rattle.model_own.specs.OwnWrites.{flusher_from, given_back, rested_writer, taken_up};
+ghost use Rattle.model_own.specs.{flusher_from, given_back, rested_writer, taken_up};
 
 use model_core::{FlusherStep, WriterStep};
 use redo_logactors::{Flusher, Writer};

@@ -10,7 +10,7 @@ use model_page::Content;
 use std::alloc::{AllocError, Global};
 
 /// The n-th stretch of page size on the device: the slots come first, and then the places.
-#[tactic(auto, unfolding(model_page::specs::Copies::stretch_at))]
+#[tactic(auto, unfolding(model_page::specs::Page::stretch_at))]
 fn stretch_at<'a>(image: &'a [u8], shape: &Shape, n: u32) -> &'a [u8]
     requires limits { IsWithinLimits shape.now }
     requires inside { (n + 1) * shape.now.page_size ≤ length image.now }

@@ -1,8 +1,7 @@
 // What the checkpointer asks for, and what it makes of the answer.
 ghost use Rattle.std.specs.Prelude.{◌≡◌, ◌-◌, ◌<◌, ◌≤◌, ◌^◌, ◌==◌, if◌then◌else◌, true, List, Option};
-ghost use Rattle.model_core.specs.Actors as actor;
-ghost use Rattle.model_core.specs.AnswerFits.{AnswerFits};
-ghost use Rattle.model_core.specs.{after_of, candidate, checked_of, checkpointer_ending, checkpointer_program, checkpointer_took, has_taken, is_above, lent, lowered, next, step_of};
+ghost use Rattle.model_core.specs.States as actor;
+ghost use Rattle.model_core.specs.{AnswerFits, after_of, candidate, checked_of, checkpointer_ending, checkpointer_program, checkpointer_took, has_taken, is_above, lent, lowered, next, step_of};
 ghost use Rattle.redo_pageactors.specs.CheckpointerView.{IsAtList, IsAtPlace};
 ghost use Rattle.redo_words.specs.{Lends};
 

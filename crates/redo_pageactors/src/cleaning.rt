@@ -1,6 +1,6 @@
 // What the cleaner asks for.
 ghost use Rattle.std.specs.Prelude.{◌≡◌, ◌<◌, length};
-ghost use Rattle.model_core.specs.Actors as actor;
+ghost use Rattle.model_core.specs.States as actor;
 ghost use Rattle.model_core.specs.{first_of_batch, frame_words, lent, next};
 ghost use Rattle.redo_words.specs.{Lends};
 

@@ -1,8 +1,7 @@
 // What the cleaner makes of the answers.
 ghost use Rattle.std.specs.Prelude.{◌≡◌, ◌<◌, ◌^◌, ◌==◌, ◌+◌, ◌++◌, ◌∷◌, [], if◌then◌else◌, length, true};
-ghost use Rattle.model_core.specs.Actors as actor;
-ghost use Rattle.model_core.specs.AnswerFits.{AnswerFits};
-ghost use Rattle.model_core.specs.{after_of, checked_of, cleaner_program, cleaner_took, finds_none, has_taken, next_in_round, old_of, step_of};
+ghost use Rattle.model_core.specs.States as actor;
+ghost use Rattle.model_core.specs.{AnswerFits, after_of, checked_of, cleaner_program, cleaner_took, finds_none, has_taken, next_in_round, old_of, step_of};
 
 use crate::batch::{RIM, drop_bytes, drop_page, split_page};
 use crate::cleaner::Cleaner;

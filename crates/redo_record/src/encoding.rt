@@ -25,7 +25,7 @@ pub fn encode(alloc: Global, group: &Group) -> Result<Bytes, NoMemory>
     Ok(Bytes::new(text))
 }
 
-#[tactic(auto, unfolding(model_log::specs::Group::group_text, model_log::specs::Record::single_text))]
+#[tactic(auto, unfolding(model_log::specs::Group::group_text, model_log::specs::Group::single_text))]
 fn append_group(text: &mut Vec<u8>, group: &Group) -> Result<(), AllocError>
     requires { IsGroup group.now }
     ensures { OnOk result (text.new.items ≡ text.old.items ++ group_text group.now) }
@@ -41,7 +41,7 @@ fn append_group(text: &mut Vec<u8>, group: &Group) -> Result<(), AllocError>
     }
 }
 
-#[tactic(auto, unfolding(model_log::specs::Record::record_text))]
+#[tactic(auto, unfolding(model_log::specs::Group::record_text))]
 fn append_several(text: &mut Vec<u8>, recs: &[Rec]) -> Result<(), AllocError>
     requires { AllByRecursion HasText recs.now }
     ensures { OnOk result (text.new.items ≡ text.old.items ++ flat_map record_text recs.now) }

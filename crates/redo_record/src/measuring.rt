@@ -31,7 +31,7 @@ impl Length for Group {
         self.checked_length().unwrap()
     }
 
-    #[tactic(auto, unfolding(model_log::specs::Group::group_text, model_log::specs::Record::single_text, model_log::specs::Record::record_text))]
+    #[tactic(auto, unfolding(model_log::specs::Group::group_text, model_log::specs::Group::single_text, model_log::specs::Group::record_text))]
     fn checked_length(&self) -> Option<u64>
         ensures { SomeIff result (group_length self.now < 2 ^ 64) (group_length self.now) }
     {
@@ -72,7 +72,7 @@ fn with_record(total: u64, rec: &Rec) -> Option<u64>
     total.checked_add(record_length(rec)?)
 }
 
-#[tactic(auto, unfolding(model_log::specs::Record::record_text))]
+#[tactic(auto, unfolding(model_log::specs::Group::record_text))]
 fn record_length(rec: &Rec) -> Option<u64>
     ensures { SomeIff result (length (record_text rec.now) < 2 ^ 64)
         (length (record_text rec.now)) }

@@ -1,13 +1,12 @@
 -- What a scan's fault and a page's fault say of a store whose header and log were read, and what it is read as.
 use Rattle.std.proofs.Common.{ℕ, List, Option}
-use Rattle.model_device.specs.Disk.{Disk}
+use Rattle.model_device.specs.{Disk}
 use Rattle.model_log.specs.{layout_of}
 use Rattle.model_log.specs.declared.block.BlockView.{BlockView}
 use Rattle.model_log.specs.declared.group.Whole.{Whole}
 use Rattle.model_log.specs.declared.layout.Layout.{Layout}
 use Rattle.model_page.specs.declared.content.Content.{Content}
-use Rattle.model_store.specs.{AreReadPages, IsBadRecord, IsReading, IsScan, Refuses, taken}
-use Rattle.model_store.specs.Reading.{IsScanned}
+use Rattle.model_store.specs.{AreReadPages, IsBadRecord, IsReading, IsScan, Refuses, taken, IsScanned}
 use Rattle.model_store.specs.declared.refusal.Refusal.TheVariants as refusal
 use Rattle.redo_recover.specs.Devices.{HasCauseIn, OnContent, OnContents, OnSource}
 use Rattle.redo_recover.specs.Groups.{IsScanFault}

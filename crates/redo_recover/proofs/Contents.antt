@@ -1,6 +1,6 @@
 -- What is known of a device's content, where it tells, and what was read off it.
 use Rattle.std.proofs.Common.{ℕ, List, Option, Some, None}
-use Rattle.model_device.specs.Disk.{Disk}
+use Rattle.model_device.specs.{Disk}
 use Rattle.redo_recover.specs.Devices.{OnContent, OnContents}
 
 -- what follows from what is known of a content is known too

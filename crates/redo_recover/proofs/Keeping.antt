@@ -8,14 +8,13 @@ use Rattle.model_base.specs.declared.limits.TheConstants.{BLOCK_SIZE}
 use Rattle.model_base.specs.declared.shape.Shape.{Shape}
 use Rattle.model_page.specs.{copy_lsn, copy_lsn_by, data_device_length, HasNoCopy, IsBestCopy, IsKept, IsLost, page_check, place_bytes, place_lsn, place_lsn_by, slot_bytes, stretch_at, user_part}
 use Rattle.model_page.specs.declared.content.Content.{Content}
-use Rattle.model_device.specs.Disk.{Disk}
+use Rattle.model_device.specs.{Disk}
 use Rattle.redo_apply.specs.{ArePagesOf}
 use Rattle.redo_disk.specs.{IsRange, part}
 use Rattle.redo_recover.proofs.Contents.{content-both, content-weaker}
 use Rattle.redo_recover.proofs.Paging.{AreKeptFirst, all-kept, first_lost, kept-put}
 use Rattle.redo_recover.specs.Devices.{OnContent}
-use Rattle.redo_recover.specs.Pages.{AreKept, HoldsSlots, IsFirstLost, IsFirstLostFault, IsLostFault, PutsKept}
-use Rattle.redo_recover.specs.Places.{IsFoundAt}
+use Rattle.redo_recover.specs.Pages.{AreKept, HoldsSlots, IsFirstLost, IsFirstLostFault, IsLostFault, PutsKept, IsFoundAt}
 use Rattle.redo_recover.specs.declared.fault.RecFault.{RecFault}
 use Rattle.redo_recover.specs.declared.fault.RecFault.TheVariants.{SmallLog, NotFormatted, BadFormat, SmallData, NoCheckpoint, BadRecord, PageLost, PageAhead, LogDev, DataDev, NoMemory}
 

@@ -4,14 +4,12 @@ use Rattle.std.proofs.lemmas.Bool.{cases_lt}
 use Rattle.std.specs.Prelude.{IsErrOf}
 use Rattle.model_base.specs.{HasRisen}
 use Rattle.model_log.specs.declared.layout.TheConstants.{HEADER_BYTES}
-use Rattle.redo_disk.specs.{Answer, Call, MakesCall, MayEndWith, ReadStep, Reads, ReadsMayEndWith, error_of}
-use Rattle.redo_disk.specs.Seen.{Seen}
+use Rattle.redo_disk.specs.{Answer, Call, MakesCall, MayEndWith, ReadStep, Reads, ReadsMayEndWith, error_of, Seen}
 use Rattle.redo_disk.specs.declared.error.DevError.{DevError}
 use Rattle.redo_disk.specs.declared.error.DevError.TheVariants as device
 use Rattle.redo_disk.proofs.Calls.{AreReads-append, MayEndWith-append, MayEndWith-ends, MayEndWith-no_memory}
 use Rattle.redo_disk.proofs.Made.{EndWith-one, joined_calls, no_calls, one_call, weaker_calls}
-use Rattle.redo_recover.specs.Devices.{data_fault_of, log_fault_of}
-use Rattle.redo_recover.specs.Reads.{IsLogRead, IsOnlyRead, ReadsLog, data_error, log_error}
+use Rattle.redo_recover.specs.Devices.{data_fault_of, log_fault_of, IsLogRead, IsOnlyRead, ReadsLog, data_error, log_error}
 use Rattle.redo_recover.specs.declared.fault.RecFault.{RecFault}
 use Rattle.redo_disk.proofs.Told.{still-same}
 use Rattle.redo_recover.proofs.Unchanged.{IsUnchanged-then}
@@ -32,15 +30,15 @@ MayBeOwn (Some device.NoMemory) = Unit {0}
 MayBeOwn (Some device.Failed) = ⊥
 
 none-ends : (error : Option DevError) → MayBeOwn error → MayEndWith error []
-none-ends None own = record { stop = tt; first = inl refl }
-none-ends (Some device.NoMemory) own = record { stop = tt; first = inr (refl, refl) }
+none-ends None own = inl refl
+none-ends (Some device.NoMemory) own = inr (refl, refl)
 none-ends (Some device.Failed) own = absurd own
 
 module _ {D : Type 0} {seen : D → Seen} {gives : D → Call → D → Type 0} where
   pub only-none : (device : D) → IsOnlyRead seen gives device None device
   only-none device = record {
     unchanged = record { tells = still-same (seen device).tells (seen device).tells refl; crashed_from = refl; size = refl; later = omega arith };
-    calls = no_calls gives device (ReadsMayEndWith None) (record { reads = tt; ends = record { stop = tt; first = inl refl } });
+    calls = no_calls gives device (ReadsMayEndWith None) (record { reads = tt; ends = inl refl });
     failed = λ is. absurd cc;
   }
 

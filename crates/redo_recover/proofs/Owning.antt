@@ -1,16 +1,14 @@
 -- Which faults are no device's.
 use Rattle.std.proofs.Common.{◌≢◌, ℕ, List, Option, Some, None, refl, subst}
 use Rattle.model_base.specs.declared.shape.Shape.{Shape}
-use Rattle.model_device.specs.Disk.{Disk}
+use Rattle.model_device.specs.{Disk}
 use Rattle.redo_disk.specs.declared.error.DevError.{DevError}
 use Rattle.redo_disk.specs.declared.error.DevError.TheVariants as device
-use Rattle.redo_recover.specs.Devices.{log_fault_of}
+use Rattle.redo_recover.specs.Devices.{log_fault_of, HasLengthCause, data_error, log_error}
 use Rattle.model_log.specs.declared.layout.Layout.{Layout}
-use Rattle.redo_recover.specs.Devices.{HasLengthCause}
 use Rattle.redo_recover.specs.Groups.{IsParseFault, IsScanFault}
 use Rattle.redo_recover.specs.Pages.{IsPageFault}
 use Rattle.redo_recover.proofs.Only.{MayBeOwn}
-use Rattle.redo_recover.specs.Reads.{data_error, log_error}
 use Rattle.redo_recover.specs.Start.{IsHeadFault, IsLengthFault}
 use Rattle.redo_recover.specs.declared.fault.RecFault.{RecFault}
 use Rattle.redo_recover.specs.declared.fault.RecFault.TheVariants.{SmallLog, NotFormatted, BadFormat, SmallData, BadRecord, PageLost, PageAhead, LogDev, DataDev, NoMemory}

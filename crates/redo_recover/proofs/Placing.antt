@@ -3,7 +3,7 @@ use Rattle.std.proofs.Common.{◌≡◌, ◌<◌, ◌+◌, ◌*◌, ◌++◌, �
 use Rattle.std.specs.List.{slice_get}
 use Rattle.std.proofs.lemmas.Option.{slice_get_within}
 use Rattle.model_base.specs.declared.shape.Shape.{Shape}
-use Rattle.model_device.specs.Disk.{Disk}
+use Rattle.model_device.specs.{Disk}
 use Rattle.model_page.specs.declared.content.Content.{Content}
 use Rattle.model_log.specs.declared.group.Whole.{Whole}
 use Rattle.model_store.proofs.Places.{push_place}
@@ -13,8 +13,7 @@ use Rattle.redo_recover.proofs.Setting.{slice_get-set}
 use Rattle.redo_recover.specs.Devices.{OnContent}
 use Rattle.redo_recover.specs.Groups.{EndBehindStarts}
 use Rattle.redo_apply.specs.{ArePagesOf, AreReplayed}
-use Rattle.redo_recover.specs.Pages.{AreKept, HoldsSlots}
-use Rattle.redo_recover.specs.Places.{AreFoundAt, AreFoundOn, AreFoundWith, ArePlacesOf, HasItsSlot, IsFoundAt, PutsFound}
+use Rattle.redo_recover.specs.Pages.{AreKept, HoldsSlots, AreFoundAt, AreFoundOn, AreFoundWith, ArePlacesOf, HasItsSlot, IsFoundAt, PutsFound}
 use Rattle.redo_recover.specs.declared.places.Found.{Found}
 use Rattle.redo_recover.specs.declared.places.Places.{Places}
 

@@ -14,7 +14,7 @@ use Rattle.model_store.specs.{bytes_of, joined, Source, Taken, taken, taken_amon
 use Rattle.std.specs.Option.{option_map}
 use Rattle.model_store.proofs.Places.{push_place, place_push}
 use Rattle.model_store.proofs.Sources.{data_at, joined-append, view-none}
-use Rattle.model_device.specs.Disk.{Disk}
+use Rattle.model_device.specs.{Disk}
 use Rattle.redo_recover.specs.Blocks.{AreBlocksOf}
 use Rattle.redo_recover.specs.Devices.{OnContent}
 use Rattle.redo_recover.specs.Full.{AreBlocksSoFar}

@@ -9,7 +9,7 @@ use Rattle.model_log.specs.declared.layout.Layout.{Layout}
 use Rattle.model_log.specs.declared.layout.TheConstants.{HEADER_BYTES}
 use Rattle.model_log.specs.declared.head.Head.TheVariants.{Good, OtherFormat, Unformatted}
 use Rattle.model_page.specs.{data_device_length}
-use Rattle.model_device.specs.Disk.{Disk}
+use Rattle.model_device.specs.{Disk}
 use Rattle.std.specs.Prelude.{IfSome}
 use Rattle.model_store.specs.{HasDevices, HasHead, Refuses}
 use Rattle.model_store.specs.declared.refusal.Refusal.TheVariants as refusal

@@ -1,13 +1,11 @@
 -- Calls that only read, one after another.
 use Rattle.std.proofs.Common.{ℕ, List, Option, Some, None, refl, subst, ◌∙◌, arith}
-use Rattle.redo_disk.specs.Seen.{Seen}
-use Rattle.redo_recover.specs.Devices.{IsUnchanged, OnContent, OnContents}
-use Rattle.redo_disk.specs.{StillTells}
+use Rattle.redo_disk.specs.{Seen, StillTells}
+use Rattle.redo_recover.specs.Devices.{IsUnchanged, OnContent, OnContents, log_fault_of}
 use Rattle.redo_disk.proofs.Told.{still-known, still-same, still-then}
-use Rattle.model_device.specs.Disk.{Disk}
+use Rattle.model_device.specs.{Disk}
 use Rattle.redo_disk.specs.declared.error.DevError.{DevError}
 use Rattle.redo_disk.specs.declared.error.DevError.TheVariants.{Failed, NoMemory}
-use Rattle.redo_recover.specs.Devices.{log_fault_of}
 use Rattle.redo_recover.specs.Recovery.{IsCaused}
 
 pub IsUnchanged-then : (old middle new : Seen) → IsUnchanged old middle → IsUnchanged middle new → IsUnchanged old new

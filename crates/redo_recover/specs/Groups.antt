@@ -4,7 +4,7 @@ use Rattle.std.specs.List.{AllByRecursion}
 use Rattle.model_base.specs.declared.shape.Shape.{Shape}
 use Rattle.model_base.specs.declared.got.Got.{Got}
 use Rattle.model_base.specs.declared.got.Got.TheVariants.{Value, Short, Bad}
-use Rattle.model_device.specs.Disk.{Disk}
+use Rattle.model_device.specs.{Disk}
 use Rattle.model_log.specs.{group_text, IsDataLsn, IsFront, last_span_end, lsn_at, round_of, sn_of, spans_of}
 use Rattle.model_log.specs.declared.rec.Rec.{Rec}
 use Rattle.model_log.specs.declared.group.Whole.{Whole}

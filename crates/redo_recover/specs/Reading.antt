@@ -3,11 +3,10 @@ use Rattle.std.specs.Prelude.{ℕ, ◌≤◌, All, length, IfSome}
 use Rattle.model_base.specs.declared.shape.Shape.{Shape}
 use Rattle.model_log.specs.{GroupFits, IsInRound, IsTailPlace, layout_of}
 use Rattle.model_log.specs.declared.layout.Layout.{Layout}
-use Rattle.model_store.specs.Reading.{Reading}
+use Rattle.model_store.specs.{Reading}
 use Rattle.model_store.specs.declared.tail.Tail.{Tail}
 use Rattle.redo_recover.specs.Groups.{EndBehindStarts, IsEndOf}
-use Rattle.redo_recover.specs.Pages.{AreNotAhead}
-use Rattle.redo_recover.specs.Places.{ArePlacesOf}
+use Rattle.redo_recover.specs.Pages.{AreNotAhead, ArePlacesOf}
 use Rattle.redo_recover.specs.Start.{IsUsable}
 use Rattle.redo_recover.specs.declared.recovered.Recovered.{Recovered}
 use Rattle.redo_recover.specs.declared.scan.Scanned.{Scanned}

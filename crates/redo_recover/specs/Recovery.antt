@@ -2,12 +2,10 @@
 use Rattle.std.specs.Prelude.{Result, IfOk, IfErr, IfSome}
 use Rattle.model_log.specs.{IsStop, layout_of}
 use Rattle.model_store.specs.{AreFoundIn, IsReading}
-use Rattle.redo_disk.specs.{Call, HasSize}
-use Rattle.redo_disk.specs.Seen.{Seen}
-use Rattle.redo_recover.specs.Devices.{HasCauseIn, HasLengthCause, OnContent, OnContents, reread}
-use Rattle.redo_recover.specs.Places.{AreFoundOn}
+use Rattle.redo_disk.specs.{Call, HasSize, Seen}
+use Rattle.redo_recover.specs.Devices.{HasCauseIn, HasLengthCause, OnContent, OnContents, reread, IsLogRead, IsOnlyRead, data_error_of, log_error_of}
+use Rattle.redo_recover.specs.Pages.{AreFoundOn}
 use Rattle.redo_recover.specs.Reading.{IsOfDevices, reading_of}
-use Rattle.redo_recover.specs.Reads.{IsLogRead, IsOnlyRead, data_error_of, log_error_of}
 use Rattle.redo_recover.specs.declared.fault.RecFault.{RecFault}
 use Rattle.redo_recover.specs.declared.recovered.Recovered.{Recovered}
 

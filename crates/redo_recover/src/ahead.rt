@@ -4,10 +4,9 @@ ghost use Rattle.model_base.specs.declared.limits.TheConstants.{BLOCK_SIZE, LSN_
 ghost use Rattle.model_log.specs.{IsLayout, ring_start, round_of};
 ghost use Rattle.redo_disk.specs.{error_of};
 ghost use Rattle.redo_recover.specs.Blocks.{AreBounded};
-ghost use Rattle.redo_recover.specs.Devices.{OnContent};
+ghost use Rattle.redo_recover.specs.Devices.{OnContent, IsOnlyRead};
 ghost use Rattle.redo_recover.specs.Full.{AreFullIn, AreFullOf};
 ghost use Rattle.redo_recover.specs.Piece.{IsPieceOf};
-ghost use Rattle.redo_recover.specs.Reads.{IsOnlyRead};
 ghost use Rattle.redo_recover.specs.Taking.{AreTailsOf};
 
 use crate::blocks::readable_end;

@@ -5,9 +5,8 @@ ghost use Rattle.model_log.specs.{IsLayout, IsStop, ring_start, round_of};
 ghost use Rattle.model_store.specs.{AreFoundIn, groups_start};
 ghost use Rattle.redo_disk.specs.{error_of};
 ghost use Rattle.redo_recover.specs.Blocks.{AreBlocksOf, AreBounded};
-ghost use Rattle.redo_recover.specs.Devices.{OnContent, OnSource};
+ghost use Rattle.redo_recover.specs.Devices.{OnContent, OnSource, IsOnlyRead};
 ghost use Rattle.redo_recover.specs.Reading.{IsTailFound};
-ghost use Rattle.redo_recover.specs.Reads.{IsOnlyRead};
 ghost use Rattle.redo_recover.specs.Taking.{AreTailsOf};
 
 use crate::ahead::{Ahead, read_ahead};

@@ -3,10 +3,8 @@ ghost use Rattle.std.specs.Prelude.{List, ℕ, ◌≡◌, ◌≤◌, ◌<◌, �
 ghost use Rattle.model_base.specs.{IsWithinLimits, user_length};
 ghost use Rattle.model_page.specs.{data_device_length, IsKept, IsLost, place_bytes};
 ghost use Rattle.redo_apply.specs.{ArePagesOf};
-ghost use Rattle.redo_recover.specs.Devices.{OnContent};
-ghost use Rattle.redo_recover.specs.Pages.{AreKept, HoldsSlots, IsFirstLostFault, IsLostFault, PutsKept};
-ghost use Rattle.redo_recover.specs.Places.{AreFoundAt, AreFoundWith, HasItsSlot, IsFoundAt, PutsFound};
-ghost use Rattle.redo_recover.specs.Reads.{IsOnlyRead, data_error_of};
+ghost use Rattle.redo_recover.specs.Devices.{OnContent, IsOnlyRead, data_error_of};
+ghost use Rattle.redo_recover.specs.Pages.{AreKept, HoldsSlots, IsFirstLostFault, IsLostFault, PutsKept, AreFoundAt, AreFoundWith, HasItsSlot, IsFoundAt, PutsFound};
 
 use crate::errors::data_fault;
 use crate::piece::read_part;

@@ -7,11 +7,9 @@ ghost use Rattle.model_log.specs.declared.group.Whole.{Whole};
 ghost use Rattle.std.specs.List.{AllByRecursion};
 ghost use Rattle.model_store.specs.{AreReadPages};
 ghost use Rattle.redo_apply.specs.{ArePagesOf};
-ghost use Rattle.redo_recover.specs.Devices.{OnContent};
+ghost use Rattle.redo_recover.specs.Devices.{OnContent, IsOnlyRead, data_error_of};
 ghost use Rattle.redo_recover.specs.Groups.{EndBehindStarts};
-ghost use Rattle.redo_recover.specs.Pages.{AreNotAhead, IsAheadFault, IsPageFault};
-ghost use Rattle.redo_recover.specs.Places.{AreFoundOn, ArePlacesOf};
-ghost use Rattle.redo_recover.specs.Reads.{IsOnlyRead, data_error_of};
+ghost use Rattle.redo_recover.specs.Pages.{AreNotAhead, IsAheadFault, IsPageFault, AreFoundOn, ArePlacesOf};
 
 use crate::errors::data_fault;
 use crate::kept::keep_pages;

@@ -2,9 +2,8 @@
 ghost use Rattle.std.specs.Prelude.{ℕ, List, ◌≡◌, ◌≤◌, ◌<◌, ◌+◌, ◌-◌, ◌%◌, length, take, IfOk, IsTrue, ◌↔◌};
 ghost use Rattle.model_log.specs.{sector_at};
 ghost use Rattle.redo_disk.specs.{error_of, IsRange, part};
-ghost use Rattle.redo_recover.specs.Devices.{OnContent};
+ghost use Rattle.redo_recover.specs.Devices.{OnContent, IsOnlyRead};
 ghost use Rattle.redo_recover.specs.Piece.{IsPieceOf, HasSector};
-ghost use Rattle.redo_recover.specs.Reads.{IsOnlyRead};
 
 use model_base::BLOCK_SIZE;
 use redo_disk::{DevError, Sectors};

@@ -4,10 +4,9 @@ ghost use Rattle.model_base.specs.{IsWithinLimits};
 ghost use Rattle.model_base.specs.declared.limits.TheConstants.{BLOCK_SIZE, LSN_LIMIT, START_LSN};
 ghost use Rattle.model_log.specs.{IsLayout, IsStop, ring_start, round_of};
 ghost use Rattle.model_store.specs.{AreFoundIn, IsScan};
-ghost use Rattle.redo_recover.specs.Devices.{OnContent, OnSource};
+ghost use Rattle.redo_recover.specs.Devices.{OnContent, OnSource, IsOnlyRead, log_error_of};
 ghost use Rattle.redo_recover.specs.Groups.{IsScanFault};
 ghost use Rattle.redo_recover.specs.Reading.{IsScanOf};
-ghost use Rattle.redo_recover.specs.Reads.{IsOnlyRead, log_error_of};
 
 use crate::RecFault;
 use crate::blocks::{Blocks, read_blocks};

@@ -4,8 +4,7 @@ ghost use Rattle.model_base.specs.{IsWithinLimits};
 ghost use Rattle.model_log.specs.{head_of, IsLayout, log_device_length, newest_checkpoint};
 ghost use Rattle.model_page.specs.{data_device_length};
 ghost use Rattle.redo_disk.specs.{HasSize};
-ghost use Rattle.redo_recover.specs.Devices.{OnContents, reread};
-ghost use Rattle.redo_recover.specs.Reads.{IsLogRead, log_error_of};
+ghost use Rattle.redo_recover.specs.Devices.{OnContents, reread, IsLogRead, log_error_of};
 ghost use Rattle.redo_recover.specs.Recovery.{IsCaused};
 ghost use Rattle.redo_recover.specs.Start.{IsHeadFault, IsLengthFault, IsRecoveryStart, IsUsable};
 

@@ -30,7 +30,7 @@ fn hex_word(alloc: Global, bytes: &[u8]) -> Result<String, AllocError>
     hex::encode(alloc, bytes)
 }
 
-#[tactic(auto, unfolding(model_report::specs::Pages::page_line))]
+#[tactic(auto, unfolding(model_report::specs::Listing::page_line))]
 fn push_page(
     alloc: Global,
     text: &mut String,
@@ -45,7 +45,7 @@ fn push_page(
 }
 
 /// Writes the line of each page that a group has changed at the end of the text.
-#[tactic(auto, using(crate::proofs::PageLines::page_steps), unfolding(model_report::specs::Pages::page_lines))]
+#[tactic(auto, using(crate::proofs::PageLines::page_steps), unfolding(model_report::specs::Listing::page_lines))]
 pub fn push_pages(alloc: Global, text: &mut String, pages: &[Content]) -> Result<(), AllocError>
     ensures { OnOk result
         (string_bytes text.new ≡ string_bytes text.old ++ page_lines pages.now) }

@@ -54,7 +54,7 @@ fn push_recovered(text: &mut String, history: &[Entry], end: u64) -> Result<(), 
 /// The report of a run: where it starts, or that opening was stopped; each reserved group in lsn order; how many
 /// lines are left of each user; the marks, of which there are none where opening was stopped; what each follower came
 /// to; and the end of the recovered log with the pages that were read, if the run was crashed.
-#[tactic(auto, unfolding(model_report::specs::Report::report_text))]
+#[tactic(auto, unfolding(model_report::specs::Listing::report_text))]
 pub fn report(
     alloc: Global,
     start: Option<u64>,

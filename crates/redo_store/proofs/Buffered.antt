@@ -3,7 +3,7 @@ use Rattle.std.proofs.Common.{◌≡◌, ◌≤◌, ◌<◌, ◌++◌, IfSome, a
 use Rattle.model_base.specs.{IsWithinLimits}
 use Rattle.model_base.specs.declared.shape.Shape.{Shape}
 use Rattle.model_page.specs.declared.content.Content.{Content}
-use Rattle.model_device.specs.Disk.{Disk}
+use Rattle.model_device.specs.{Disk}
 use Rattle.model_device.specs.declared.write.Write.{Write}
 use Rattle.model_parts.specs.{after_both, batch_of, batch_text, FailsBoth, Fresh, IsBatch, IsUpTo, IsWritable, place_writes, slots_write}
 use Rattle.model_parts.specs.Stored.{Stored}
@@ -13,7 +13,7 @@ use Rattle.redo_disk.proofs.Told.{known-both}
 use Rattle.redo_disk.specs.{Call, HasSize, MakesCalls, put_requests, Serve, write_at}
 use Rattle.redo_disk.specs.declared.error.DevError.{DevError}
 use Rattle.redo_store.specs.Places.{text_writes}
-use Rattle.redo_store.specs.Requests.{all_put, batch_requests}
+use Rattle.redo_store.specs.Part.{all_put, batch_requests}
 use Rattle.redo_store.proofs.TextWrites.{text_writes-batch}
 
 -- the pairs and the user bytes make a batch

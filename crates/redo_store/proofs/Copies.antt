@@ -3,8 +3,7 @@ use Rattle.std.proofs.Common.{◌≡◌, ℕ, inr, List, ap, subst, ◌∙◌}
 use Rattle.model_base.specs.declared.shape.Shape.{Shape}
 use Rattle.model_parts.proofs.Repairs.{HasRepaired, copy-put_done, put-back_failed}
 use Rattle.model_parts.specs.{IsCopyPut, IsRepairable, KeepsAll, place_at, repair_write}
-use Rattle.model_device.specs.{IsPutOrNot, synced, written}
-use Rattle.model_device.specs.Disk.{Disk}
+use Rattle.model_device.specs.{IsPutOrNot, synced, written, Disk}
 use Rattle.model_device.specs.declared.write.Write.{Write}
 use Rattle.model_page.specs.{slot_bytes}
 use Rattle.redo_disk.specs.{write_at}

@@ -3,12 +3,11 @@ use Rattle.std.proofs.Common.{◌≡◌, ◌≤◌, ◌<◌, IfSome, ℕ, List, 
 use Rattle.model_base.specs.{IsWithinLimits}
 use Rattle.model_base.specs.declared.shape.Shape.{Shape}
 use Rattle.model_parts.specs.{Fresh, HasNothingPending, IsBefore}
-use Rattle.model_device.specs.Disk.{Disk}
+use Rattle.model_device.specs.{Disk}
 use Rattle.model_page.specs.{data_device_length}
 use Rattle.model_page.specs.declared.content.Content.{Content}
 use Rattle.redo_disk.proofs.Told.{told-step}
-use Rattle.redo_disk.specs.{HasSize, OnTold, WhereTold}
-use Rattle.redo_disk.specs.Seen.{Seen}
+use Rattle.redo_disk.specs.{HasSize, OnTold, WhereTold, Seen}
 use Rattle.redo_store.proofs.Buffered.{long-known}
 use Rattle.redo_store.specs.Part.{Part}
 use Rattle.redo_store.specs.Holding.{IsFitted}

@@ -1,20 +1,17 @@
 -- A repair: the slots are read, and the copy that counts by what was read is put into its place.
-use Rattle.std.proofs.Common.{◌≡◌, ◌+◌, ◌-◌, ◌*◌, ℕ, inl, inr, List, [], ◌∷◌, length, take, drop}
-use Rattle.std.proofs.Common.{IfSome, Option, Some, None, Ok, Err, refl, sym, ap, subst, ◌∙◌, arith}
+use Rattle.std.proofs.Common.{◌≡◌, ◌+◌, ◌-◌, ◌*◌, ℕ, inl, inr, List, [], ◌∷◌, length, take, drop, IfSome, Option, Some, None, Ok, Err, refl, sym, ap, subst, ◌∙◌, arith}
 use Rattle.model_base.specs.declared.shape.Shape.{Shape}
 use Rattle.model_parts.proofs.Repairs.{HasRepaired, copy-put, copy-put_done, put-back_failed, same-best}
 use Rattle.model_parts.proofs.Stretches.{stretch-piece}
 use Rattle.model_parts.specs.{FailsPutBack, IsPutBack, IsRepairable, KeepsAll, place_at, repair_write, SameSlots}
-use Rattle.model_device.specs.{IsPutOrNot, synced, written}
-use Rattle.model_device.specs.Disk.{Disk}
+use Rattle.model_device.specs.{IsPutOrNot, synced, written, Disk}
 use Rattle.model_device.specs.declared.write.Write.{Write}
 use Rattle.model_page.specs.{HasNoCopy, IsBestCopy, slot_bytes}
 use Rattle.redo_dblwr.specs.{slots_read}
 use Rattle.redo_disk.proofs.Calls.{EndWith-append}
 use Rattle.redo_disk.proofs.Made.{EndWith-one, call_serves}
 use Rattle.redo_disk.proofs.Told.{OnTold-weaker, where-still, where-then, where-told}
-use Rattle.redo_disk.specs.{Answer, Call, error_of, MakesCall, MakesCalls, OnTold, put_requests, Reads}
-use Rattle.redo_disk.specs.{Serve, StillTells, ToRead, WhereTold, write_at}
+use Rattle.redo_disk.specs.{Answer, Call, error_of, MakesCall, MakesCalls, OnTold, put_requests, Reads, Serve, StillTells, ToRead, WhereTold, write_at}
 use Rattle.redo_disk.specs.declared.error.DevError.{DevError}
 use Rattle.redo_store.proofs.Entered.{IsReady}
 use Rattle.redo_store.specs.RepairRequests.{RepairCalls}

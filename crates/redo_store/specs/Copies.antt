@@ -1,7 +1,7 @@
 -- A copy of a page that was read off the slots before, and is to be put into its place.
 use Rattle.std.specs.Prelude.{ℕ, ◌≡◌, List, None}
 use Rattle.model_base.specs.declared.shape.Shape.{Shape}
-use Rattle.model_device.specs.Disk.{Disk}
+use Rattle.model_device.specs.{Disk}
 use Rattle.model_page.specs.{IsBestCopy, place_lsn, slot_bytes}
 
 -- by what reads give, the page's place doesn't pass, and these are the bytes of the copy that counts

@@ -6,7 +6,7 @@ use Rattle.model_page.specs.{data_device_length}
 use Rattle.model_page.specs.declared.content.Content.{Content}
 use Rattle.model_parts.specs.{Fresh, IsUpTo, Keeps}
 use Rattle.model_parts.specs.Stored.{Stored}
-use Rattle.redo_disk.specs.Seen.{Seen}
+use Rattle.redo_disk.specs.{Seen}
 use Rattle.redo_store.specs.Part.{Part}
 
 -- what each part has: a device that is long enough, and room for all slots

@@ -1,11 +1,11 @@
 -- When a run can start on an opened store, whatever its devices tell.
-use Rattle.std.specs.Prelude.{ℕ, ◌≡◌, ◌≤◌, ◌<◌, ◌+◌, ◌^◌, None, Some, slice_get}
+use Rattle.std.specs.Prelude.{◌≡◌, ℕ, ◌≤◌, ◌<◌, ◌+◌, ◌^◌, None, Some, slice_get}
+use Rattle.model_parts.specs.{first_marks, first_tails}
 use Rattle.model_base.specs.{IsWithinLimits}
 use Rattle.model_base.specs.declared.limits.TheConstants.{START_LSN}
 use Rattle.model_log.specs.{IsAtDataStart}
 use Rattle.model_log.specs.declared.layout.TheConstants.{BLOCK_HEADER}
 use Rattle.model_page.specs.declared.content.Content.{Content}
-use Rattle.model_parts.specs.{first_marks, first_tails}
 use Rattle.redo_apply.specs.{ArePagesOf}
 use Rattle.redo_store.specs.declared.opened.Opened.{Opened}
 

@@ -5,7 +5,7 @@ ghost use Rattle.model_parts.specs.{after_both, batch_of, FailsBoth, IsWritable,
 ghost use Rattle.model_device.specs.{IsPutOrNot, synced, written};
 ghost use Rattle.model_page.specs.{data_device_length};
 ghost use Rattle.redo_disk.specs.{error_of, HasCause, MakesCalls, OnTold, put_requests, Serve};
-ghost use Rattle.redo_store.specs.Requests.{batch_requests};
+ghost use Rattle.redo_store.specs.Part.{batch_requests};
 
 use crate::places::put_both;
 use model_base::Shape;

@@ -6,12 +6,10 @@ ghost use Rattle.model_device.specs.{synced, written};
 ghost use Rattle.model_page.specs.{data_device_length, HasNoCopy, IsBestCopy, place_bytes};
 ghost use Rattle.model_page.specs.declared.content.Content.{Content};
 ghost use Rattle.redo_dblwr.specs.{slots_read, stretch_read};
-ghost use Rattle.redo_disk.specs.{error_of, MakesCall, MakesCalls, put_requests, Reads, Serve};
-ghost use Rattle.redo_disk.specs.{OnTold, StillTells, WhereTold};
+ghost use Rattle.redo_disk.specs.{error_of, MakesCall, MakesCalls, put_requests, Reads, Serve, OnTold, StillTells, WhereTold};
 ghost use Rattle.redo_store.specs.Copies.{IsCopyToPut};
-ghost use Rattle.redo_store.specs.Part.{PartStep};
+ghost use Rattle.redo_store.specs.Part.{PartStep, batch_requests};
 ghost use Rattle.redo_store.specs.Holding.{PartStores, PartKeeps};
-ghost use Rattle.redo_store.specs.Requests.{batch_requests};
 ghost use Rattle.redo_store.specs.RepairRequests.{RepairCalls};
 
 use crate::batch::{put_pages, put_slots};

@@ -6,7 +6,7 @@ ghost use Rattle.model_device.specs.{synced};
 ghost use Rattle.model_page.specs.{data_device_length};
 ghost use Rattle.redo_disk.specs.{error_of, HasCause, MakesCalls, OnTold, put_requests, Serve, ToWrite, write_at};
 ghost use Rattle.redo_store.specs.Places.{text_writes};
-ghost use Rattle.redo_store.specs.Requests.{all_put};
+ghost use Rattle.redo_store.specs.Part.{all_put};
 
 use model_base::Shape;
 use redo_dblwr::place_at;

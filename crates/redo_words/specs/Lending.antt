@@ -1,7 +1,7 @@
 -- What an actor lends, as the definition of a turn sees it.
 use Rattle.std.specs.Prelude.{map, ◌≡◌}
 use Rattle.std.specs.List.{flat_map}
-use Rattle.model_core.specs.Actors as model
+use Rattle.model_core.specs.States as model
 use Rattle.model_core.specs.{BatchPage}
 use Rattle.model_page.specs.{user_part}
 use Rattle.redo_words.specs.declared.lent.Lent.{Lent}

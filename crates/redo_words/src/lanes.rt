@@ -15,7 +15,7 @@ pub struct Spot {
 }
 
 /// Where the byte of an sn stands.
-#[tactic(auto, unfolding(model_core::specs::Lsn::lsn))]
+#[tactic(auto, unfolding(model_core::specs::Lanes::lsn))]
 pub fn spot_of(sn: u64) -> Spot
     requires { sn < 2 ^ 61 }
     ensures cell { result.cell ≡ cell_of sn }

@@ -8,7 +8,7 @@ ghost use Rattle.model_report.specs.declared.fault.Fault.TheVariants.{Memory};
 ghost use Rattle.redo_memdisk.specs.File.{file_access};
 ghost use Rattle.redo_memdisk.specs.Memory.{new_memory};
 ghost use Rattle.redo_memdisk.specs.declared.file.Access.TheVariants.{Reading};
-ghost use Rattle.redo_lab.specs.Asked.{archives, leaves_devices};
+ghost use Rattle.redo_lab.specs.Call.{archives, leaves_devices};
 ghost use Rattle.redo_lab.specs.Files.{IsUncalled};
 ghost use Rattle.redo_lab.specs.declared.shapes.TheConstants.{ARCHIVE_LENGTH, LOG_LENGTH, STORE_LENGTH};
 

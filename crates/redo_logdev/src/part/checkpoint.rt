@@ -3,8 +3,7 @@ ghost use Rattle.std.specs.Prelude.{◌≡◌, None, OnOk, OnErr};
 ghost use Rattle.model_log.specs.{run_layout};
 ghost use Rattle.model_parts.specs.{after_asked, after_checkpoint, MayBeNext, next_number, tails_synced};
 ghost use Rattle.redo_disk.specs.{error_of, MakesCalls, put_requests, Serve};
-ghost use Rattle.redo_logdev.specs.Calls.{checkpoint_write};
-ghost use Rattle.redo_logdev.specs.Part.{Stays};
+ghost use Rattle.redo_logdev.specs.Part.{checkpoint_write, Stays};
 ghost use Rattle.redo_logdev.specs.Holding.{KeepsNumbered};
 ghost use Rattle.redo_logdev.specs.PartConditions.{HasMarks};
 

@@ -1,12 +1,9 @@
 // Reading a block of the run back.
 ghost use Rattle.std.specs.Prelude.{◌≡◌, length};
 ghost use Rattle.redo_disk.specs.{MakesCall, Reads, ReadStep};
-ghost use Rattle.redo_logdev.specs.Part.{Stays};
-ghost use Rattle.redo_logdev.specs.Holding.{KeepsHolding};
-ghost use Rattle.redo_logdev.specs.PartConditions.{HasMarks};
-ghost use Rattle.redo_logdev.specs.ReadBlock.{block_place};
-ghost use Rattle.redo_logdev.specs.Holding.{GivesBlock};
-ghost use Rattle.redo_logdev.specs.PartConditions.{MayRead};
+ghost use Rattle.redo_logdev.specs.Part.{Stays, block_place};
+ghost use Rattle.redo_logdev.specs.Holding.{KeepsHolding, GivesBlock};
+ghost use Rattle.redo_logdev.specs.PartConditions.{HasMarks, MayRead};
 
 use crate::LogPart;
 use model_base::BLOCK_SIZE;

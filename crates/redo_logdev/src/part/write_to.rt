@@ -4,8 +4,7 @@ ghost use Rattle.model_base.specs.declared.limits.TheConstants.{BLOCK_SIZE};
 ghost use Rattle.model_log.specs.{block_of, other_tail, run_layout};
 ghost use Rattle.model_parts.specs.{after_given, after_written, tails_written};
 ghost use Rattle.redo_disk.specs.{error_of, MakesCalls, Serve};
-ghost use Rattle.redo_logdev.specs.Calls.{block_writes, framed_full_blocks, last_block};
-ghost use Rattle.redo_logdev.specs.Part.{Stays};
+ghost use Rattle.redo_logdev.specs.Part.{block_writes, framed_full_blocks, last_block, Stays};
 ghost use Rattle.redo_logdev.specs.Holding.{KeepsWriting};
 ghost use Rattle.redo_logdev.specs.PartConditions.{HasMarks, MayWrite};
 

@@ -1,8 +1,7 @@
 use Rattle.std.proofs.Common.{None}
 use Rattle.redo_apply.specs.{ArePagesOf}
 use Rattle.redo_archive.proofs.Basing.{AreFirstBases}
-use Rattle.redo_recover.specs.Devices.{OnContent}
-use Rattle.redo_recover.specs.Reads.{IsOnlyRead}
+use Rattle.redo_recover.specs.Devices.{OnContent, IsOnlyRead}
 use Rattle.redo_archive.proofs.base.read_base.Given as goal
 
 abbrev pub invariant-loop-page : goal.invariant-loop-page

@@ -2,9 +2,8 @@ use Rattle.std.proofs.Common.{None}
 use Rattle.redo_apply.specs.{ArePagesOf}
 use Rattle.redo_archive.specs.Grouped.{HasLsnRoom}
 use Rattle.redo_archive.proofs.Blocking.{AreReadOf}
-use Rattle.redo_recover.specs.Devices.{OnContent}
+use Rattle.redo_recover.specs.Devices.{OnContent, IsOnlyRead}
 use Rattle.redo_recover.specs.Piece.{IsPieceOf}
-use Rattle.redo_recover.specs.Reads.{IsOnlyRead}
 use Rattle.redo_archive.proofs.blocks.restore_blocks.Given as goal
 
 abbrev pub invariant-loop-i : goal.invariant-loop-i

@@ -13,7 +13,7 @@ use Rattle.redo_disk.specs.{IsRange, MakesCalls, Serve, ToWrite}
 use Rattle.redo_disk.proofs.Told.{told-as, told-same}
 use Rattle.redo_archive.proofs.Basing.{base-range}
 use Rattle.redo_archive.proofs.Begins.{pages-more, pages-none}
-use Rattle.redo_archive.specs.Calls.{base_writes}
+use Rattle.redo_archive.specs.Part.{base_writes}
 use Rattle.redo_archive.proofs.Sealing.{AreWritten, written-none, written-told}
 use Rattle.redo_archive.proofs.pages.write_base.Goals as goal
 

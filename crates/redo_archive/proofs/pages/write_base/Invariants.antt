@@ -3,7 +3,7 @@ use Rattle.std.specs.List.{slice_get}
 use Rattle.model_page.specs.{FitsPage}
 use Rattle.model_page.specs.declared.content.Content.{Content}
 use Rattle.redo_archive.proofs.Sealing.{AreWritten}
-use Rattle.redo_archive.specs.Calls.{base_writes}
+use Rattle.redo_archive.specs.Part.{base_writes}
 use Rattle.redo_disk.specs.{MakesCalls, OnTold, Serve, ToWrite}
 use Rattle.redo_archive.proofs.pages.write_base.Given as goal
 

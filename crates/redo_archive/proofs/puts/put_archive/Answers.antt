@@ -2,10 +2,9 @@ use Rattle.std.proofs.Common.{◌≡◌, ◌++◌, ℕ, List, map, replicate, ap
 use Rattle.std.proofs.lemmas.List.{length-replicate}
 use Rattle.std.proofs.lemmas.Result.{on_ok_weaker}
 use Rattle.model_base.specs.{overwritten}
-use Rattle.model_device.specs.{settled, synced, written}
-use Rattle.model_device.specs.Disk.{Disk}
+use Rattle.model_device.specs.{settled, synced, written, Disk}
 use Rattle.model_archive.specs.{archive_head_text, base_text, begun_bytes, mark_text}
-use Rattle.redo_archive.specs.Calls.{base_writes}
+use Rattle.redo_archive.specs.Part.{base_writes}
 use Rattle.redo_disk.specs.{error_of, MakesCalls, put_requests, Request, Serve, ToWrite, write_at}
 use Rattle.redo_disk.proofs.Made.{serves_then}
 use Rattle.redo_disk.proofs.Told.{OnTold-then}

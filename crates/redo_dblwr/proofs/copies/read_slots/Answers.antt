@@ -1,6 +1,6 @@
 use Rattle.std.proofs.Common.{◌≡◌, ℕ, take, drop, length, subst, sym, arith}
 use Rattle.std.proofs.lemmas.Result.{on_ok_weaker}
-use Rattle.model_device.specs.Disk.{Disk}
+use Rattle.model_device.specs.{Disk}
 use Rattle.model_parts.specs.{SameSlots}
 use Rattle.redo_dblwr.proofs.Ranges.{front-range}
 use Rattle.redo_dblwr.proofs.Slots.{front-slots}

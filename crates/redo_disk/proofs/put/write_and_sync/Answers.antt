@@ -1,9 +1,8 @@
 use Rattle.std.proofs.Common.{◌≡◌, subst, sym, ap, ◌∙◌}
 use Rattle.std.proofs.lemmas.Result.{on_ok_weaker}
 use Rattle.model_base.specs.{overwritten}
-use Rattle.model_device.specs.{after_write, HasOneImage, synced, written}
-use Rattle.model_device.specs.Disk.{Disk}
-use Rattle.redo_disk.specs.Seen.{write_at}
+use Rattle.model_device.specs.{after_write, HasOneImage, synced, written, Disk}
+use Rattle.redo_disk.specs.Sight.{write_at}
 use Rattle.model_device.proofs.Images.{settled_images}
 use Rattle.redo_disk.proofs.Told.{OnTold-then}
 use Rattle.redo_disk.proofs.Made.{put_synced}

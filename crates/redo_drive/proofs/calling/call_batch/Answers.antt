@@ -8,7 +8,7 @@ use Rattle.redo_drive.proofs.Served.{batch_lent, batch_served}
 use Rattle.redo_drive.proofs.calling.call_batch.Given as given
 use Rattle.redo_drive.proofs.calling.call_batch.Goals as goal
 use Rattle.redo_drive.specs.DataPartSide.{HasBegun}
-use Rattle.redo_store.specs.Requests.{batch_requests}
+use Rattle.redo_store.specs.Part.{batch_requests}
 
 -- what was asked of the device, by the part's own error
 asked : (g : given.Over) (c : goal.After-write_batch g) → MakesCalls g.D.Sectors.gives c.args.store.now.dev c.write_batch.new.self.dev (Serve (batch_requests c.args.store.now.shape (batch_of c.args.store.now.shape c.in-Batch.pages.now c.in-Batch.frames.now)) c.write_batch.new.self.failed)

@@ -4,7 +4,7 @@ use Rattle.redo_disk.specs.{MakesCalls, Serve}
 use Rattle.redo_disk.specs.declared.error.DevError.{DevError}
 use Rattle.redo_drive.proofs.Served.{log_called}
 use Rattle.redo_drive.proofs.calling.call_checkpoint.Goals as goal
-use Rattle.redo_drive.specs.Requests.{checkpoint_requests}
+use Rattle.redo_drive.specs.Asking.{checkpoint_requests}
 
 pub returns-clause-checkpointed : goal.returns-clause-checkpointed
 returns-clause-checkpointed g c = let p = c.args.log.now in let e = c.checkpoint.ensures in record {

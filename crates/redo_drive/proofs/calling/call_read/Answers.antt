@@ -1,11 +1,10 @@
 use Rattle.std.proofs.Common.{Option, [], arith, length, refl, subst, sym, ℕ, ◌∷◌, ◌≡◌}
 use Rattle.std.specs.Prelude.{IfSome, OnOk}
-use Rattle.model_device.specs.Disk.{Disk}
+use Rattle.model_device.specs.{Disk}
 use Rattle.model_parts.specs.declared.marks.TailMarks.{TailMarks}
-use Rattle.redo_disk.specs.Seen.{part}
+use Rattle.redo_disk.specs.{part, MakesCalls, Serve, ToRead}
 use Rattle.model_parts.specs.declared.marks.LogMarks.{LogMarks}
 use Rattle.redo_disk.proofs.Made.{call_serves}
-use Rattle.redo_disk.specs.{MakesCalls, Serve, ToRead}
 use Rattle.redo_disk.specs.declared.error.DevError.{DevError}
 use Rattle.redo_logdev.specs.{block_place}
 use Rattle.redo_drive.proofs.Served.{off_any, on_any}

@@ -4,7 +4,7 @@ use Rattle.redo_disk.specs.{MakesCalls, Serve}
 use Rattle.redo_disk.specs.declared.error.DevError.{DevError}
 use Rattle.redo_drive.proofs.Served.{log_called}
 use Rattle.redo_drive.proofs.calling.call_sync.Goals as goal
-use Rattle.redo_drive.specs.Requests.{sync_requests}
+use Rattle.redo_drive.specs.Asking.{sync_requests}
 
 pub returns-clause-synced : goal.returns-clause-synced
 returns-clause-synced g c = let p = c.args.log.now in let e = c.sync.ensures in record {

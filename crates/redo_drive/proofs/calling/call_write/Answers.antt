@@ -8,7 +8,7 @@ use Rattle.redo_drive.proofs.Served.{blocks_lent, log_called, write_served}
 use Rattle.redo_drive.proofs.calling.call_write.Given as given
 use Rattle.redo_drive.proofs.calling.call_write.Goals as goal
 use Rattle.redo_drive.specs.LogPartSide.{HasBegun}
-use Rattle.redo_drive.specs.Requests.{write_requests}
+use Rattle.redo_drive.specs.Asking.{write_requests}
 
 -- what was asked of the device, by the part's own error
 asked : (g : given.Over) (c : goal.After-write_to g) → MakesCalls g.L.Sectors.gives c.args.log.now.dev c.write_to.new.self.dev (Serve (write_requests c.args.log.now c.in-Blocks.bytes.now c.in-Blocks.firsts.now) c.write_to.new.self.failed)

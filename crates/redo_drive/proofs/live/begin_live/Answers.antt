@@ -3,9 +3,8 @@ use Rattle.model_log.specs.{run_layout}
 use Rattle.redo_drive.proofs.FirstUsers.{idle_seat}
 use Rattle.redo_drive.proofs.LiveStarts.{if_made, live_begins}
 use Rattle.redo_drive.proofs.RunStarts.{begins}
-use Rattle.redo_drive.specs.Begins.{BeginsLive}
+use Rattle.redo_drive.specs.Begins.{BeginsLive, IsOwnOf}
 use Rattle.redo_drive.specs.LiveActors.{idle_users, live_actors}
-use Rattle.redo_drive.specs.Making.{IsOwnOf}
 use Rattle.redo_drive.proofs.live.begin_live.Goals as goal
 
 pub returns-clause-begins : goal.returns-clause-begins

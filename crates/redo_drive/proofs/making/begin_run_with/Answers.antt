@@ -2,8 +2,7 @@ use Rattle.std.proofs.Common.{Bool, false, length}
 use Rattle.redo_drive.proofs.FirstUsers.{seat_of_user}
 use Rattle.redo_drive.proofs.LiveStarts.{if_made, script_begins}
 use Rattle.redo_drive.proofs.RunStarts.{begins}
-use Rattle.redo_drive.specs.Begins.{BeginsWith}
-use Rattle.redo_drive.specs.Making.{IsOwnOf}
+use Rattle.redo_drive.specs.Begins.{BeginsWith, IsOwnOf}
 use Rattle.redo_drive.specs.Setups.{seated_actors, users_of}
 use Rattle.redo_drive.proofs.making.begin_run_with.Goals as goal
 

@@ -1,9 +1,9 @@
 use Rattle.std.proofs.Common.{Global, List, Vec, ap, arith, length, map, subst, sym, ℕ, ◌++◌, ◌∙◌, ◌≡◌}
-use Rattle.model_core.specs.Actors as model
+use Rattle.model_core.specs.States as model
 use Rattle.redo_drive.proofs.SeatedFollowers.{AreSeatedSo, if_seated, seated_so}
-use Rattle.redo_drive.specs.Making.{EndsWithReaders, new_archiver}
+use Rattle.redo_drive.specs.Begins.{EndsWithReaders, new_archiver}
 use Rattle.redo_drive.specs.Setups.{other_actors, with_others}
-use Rattle.redo_drive.specs.Views.{views_of}
+use Rattle.redo_drive.specs.History.{views_of}
 use Rattle.redo_drive.specs.declared.actor.Actor.{Actor}
 use Rattle.redo_drive.specs.declared.actor.Actor.TheVariants as own
 use Rattle.redo_drive.proofs.seating.seat_behind.Given as given

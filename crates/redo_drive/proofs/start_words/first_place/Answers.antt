@@ -2,7 +2,7 @@ use Rattle.std.proofs.Common.{ap, arith, sym, ◌≡◌}
 use Rattle.std.specs.Prelude.{slice_index}
 use Rattle.redo_drive.proofs.StartWordsPlaces.{follower_place}
 use Rattle.redo_drive.proofs.start_words.first_place.Goals as goal
-use Rattle.redo_drive.specs.FirstWords.{first_places}
+use Rattle.redo_drive.specs.Setups.{first_places}
 
 pub returns-then-reader-eq0 : goal.returns-then-reader-eq0
 returns-then-reader-eq0 c =

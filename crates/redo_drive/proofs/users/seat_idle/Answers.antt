@@ -1,12 +1,12 @@
 use Rattle.std.proofs.Common.{Global, List, Vec, [], ap, arith, map, suc, ℕ, ◌++◌, ◌+◌, ◌∙◌, ◌∷◌, ◌≡◌, sym}
 use Rattle.std.proofs.lemmas.List.{map-append}
-use Rattle.model_core.specs.Actors as actor
+use Rattle.model_core.specs.States as actor
 use Rattle.model_core.specs.{Actor, new_user, UserState}
 use Rattle.model_log.specs.{run_layout}
 use Rattle.model_log.specs.declared.rec.Rec.{Rec}
 use Rattle.redo_useractor.specs.{program_lines}
 use Rattle.redo_drive.specs.LiveActors.{idle_users}
-use Rattle.redo_drive.specs.Views.{view_of, views_of}
+use Rattle.redo_drive.specs.History.{view_of, views_of}
 use Rattle.redo_drive.specs.declared.actor.Actor.TheVariants as own
 use Rattle.redo_drive.proofs.users.seat_idle.Goals as goal
 

@@ -1,8 +1,8 @@
 -- So many idle users are seated.
 use Rattle.std.proofs.Common.{map, ◌≡◌}
-use Rattle.model_core.specs.Actors as actor
+use Rattle.model_core.specs.States as actor
 use Rattle.redo_drive.specs.LiveActors.{idle_users}
-use Rattle.redo_drive.specs.Views.{views_of}
+use Rattle.redo_drive.specs.History.{views_of}
 use Rattle.redo_drive.proofs.users.seat_idle.Given as goal
 use Rattle.model_log.specs.{run_layout}
 

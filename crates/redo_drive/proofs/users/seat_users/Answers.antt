@@ -2,13 +2,13 @@ use Rattle.std.proofs.Common.{Global, List, Vec, [], ap, arith, length, subst, s
 use Rattle.std.proofs.lemmas.Bool.{eqb-false, eqb-true}
 use Rattle.std.proofs.lemmas.List.{map-append}
 use native.Mathlib.Decide.{dec_le}
-use Rattle.model_core.specs.Actors as actor
+use Rattle.model_core.specs.States as actor
 use Rattle.model_core.specs.{Line, new_user, UserState}
 use Rattle.model_log.specs.declared.rec.Rec.{Rec}
 use Rattle.redo_drive.proofs.Seats.{none_first, none_seated, one_seated}
 use Rattle.redo_drive.proofs.UserLines.{are_user_lines, no_program, program_length}
 use Rattle.redo_drive.specs.Setups.{programs_of, user_lines}
-use Rattle.redo_drive.specs.Views.{view_of, views_of}
+use Rattle.redo_drive.specs.History.{view_of, views_of}
 use Rattle.redo_drive.specs.declared.actor.Actor.{Actor}
 use Rattle.redo_drive.specs.declared.actor.Actor.TheVariants as own
 use Rattle.redo_useractor.specs.{AreUserLines, program_lines}

@@ -1,8 +1,8 @@
 -- The users below this number that have lines are seated.
 use Rattle.std.proofs.Common.{map, ◌≡◌}
-use Rattle.model_core.specs.Actors as actor
+use Rattle.model_core.specs.States as actor
 use Rattle.redo_drive.specs.Setups.{programs_of, users_below}
-use Rattle.redo_drive.specs.Views.{views_of}
+use Rattle.redo_drive.specs.History.{views_of}
 use Rattle.redo_drive.proofs.users.seat_users.Given as goal
 use Rattle.model_log.specs.{run_layout}
 

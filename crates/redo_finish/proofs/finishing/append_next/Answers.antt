@@ -2,7 +2,7 @@ use Rattle.std.proofs.Common.{None, ap, arith, is_some, min, subst, sym, â„•, â—
 use Rattle.model_base.specs.declared.limits.TheConstants.{BLOCK_SIZE}
 use Rattle.model_log.specs.{block_of}
 use Rattle.redo_archiver.specs.{finishing_mark, IsAppended, KeepsBlock}
-use Rattle.redo_drive.specs.Devices.{call_code}
+use Rattle.redo_drive.specs.{call_code}
 use Rattle.redo_drive.specs.LogPartSide.{LogRead}
 use Rattle.redo_drive.specs.declared.device.Device.TheVariants.{Log}
 use Rattle.redo_finish.proofs.Blocks.{appended_one, no_err, no_error, read_back}

@@ -1,6 +1,6 @@
 use Rattle.std.proofs.Common.{◌+◌, ◌-◌, ◌≡◌, ℕ, ap, arith, take, drop, length}
 use Rattle.std.proofs.lemmas.List.{take_rest}
-use Rattle.model_core.specs.Lsn.{lsn}
+use Rattle.model_core.specs.Lanes.{lsn}
 use Rattle.redo_follow.proofs.WholeGroups.{one_step, no_more_text, ends_so}
 use Rattle.redo_follow.proofs.handing.hand_on.Goals as goal
 

@@ -4,10 +4,9 @@ use Rattle.redo_lab.proofs.AskedLimits.{within-followers, within-run, within-wor
 use Rattle.redo_lab.proofs.Begun.{back-is, back-kept, back-unfused, handed-on, handed-one, well-back}
 use Rattle.redo_lab.proofs.Ends.{runs-scripted}
 use Rattle.redo_lab.proofs.Unarchived.{never-restores, spares-either, spares-untouched, uncalled-alone, well-untouched}
-use Rattle.redo_lab.specs.Call.{unfused}
+use Rattle.redo_lab.specs.Call.{unfused, handed_of}
 use Rattle.redo_lab.specs.Runs.{SparedBy, command_with}
 use Rattle.redo_lab.proofs.commands.source_command.Goals as goal
-use Rattle.redo_lab.specs.Handed.{handed_of}
 
 pub play-ran-requires-clause-lines : goal.play-ran-requires-clause-lines
 play-ran-requires-clause-lines g c = λ κs live.

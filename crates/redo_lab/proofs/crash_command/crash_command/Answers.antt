@@ -1,6 +1,6 @@
 use Rattle.redo_lab.proofs.CrashEnds.{told-stopped}
 use Rattle.redo_lab.proofs.Entered.{entries-then}
-use Rattle.redo_lab.specs.Handed.{call_on}
+use Rattle.redo_lab.specs.Call.{call_on}
 use Rattle.redo_lab.proofs.crash_command.crash_command.Goals as goal
 use Rattle.redo_lab.proofs.crash_command.crash_command.Goals.{in-Ended, in-Played, in-Stopped}
 

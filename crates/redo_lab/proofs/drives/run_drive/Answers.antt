@@ -1,5 +1,5 @@
 use Rattle.std.proofs.lemmas.Result.{IfOk-weaker}
-use Rattle.redo_drive.specs.Views.{views_of}
+use Rattle.redo_drive.specs.{views_of}
 use Rattle.redo_lab.proofs.ByDrive.{tells-threads}
 use Rattle.redo_lab.proofs.drives.run_drive.Goals as goal
 

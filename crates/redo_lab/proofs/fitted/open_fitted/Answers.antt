@@ -2,7 +2,7 @@
 use Rattle.std.proofs.Common.{refl, ◌∙◌}
 use Rattle.redo_lab.proofs.Entered.{both-entries, both-same, entries-then}
 use Rattle.redo_lab.proofs.Opened.{is-opening, misfits, opens-keeps, opens-ready, opens-unmoved, stands-ready, unjudged, unopened-comes}
-use Rattle.redo_lab.specs.Handed.{call_on}
+use Rattle.redo_lab.specs.Call.{call_on}
 use Rattle.redo_lab.proofs.fitted.open_fitted.Goals as goal
 
 pub returns-in-Err-clause-ready : goal.returns-in-Err-clause-ready

@@ -1,16 +1,15 @@
 -- Both devices are prepared, and their fuses are armed.
 use Rattle.std.proofs.Common.{ap, sym, ◌∙◌, ◌≡◌, [], None}
 use Rattle.std.specs.Option.{option_and_then}
-use Rattle.redo_disk.specs.Seen.{Seen}
+use Rattle.redo_disk.specs.{Seen}
 use Rattle.redo_io.specs.{SourceSeen}
 use Rattle.redo_memdisk.specs.{armed_from}
 use Rattle.redo_memdisk.specs.declared.fuse.Fuse.{Fuse}
 use Rattle.redo_lab.proofs.Entered.{entered-then}
 use Rattle.redo_lab.proofs.Fuses.{armed-now}
-use Rattle.redo_lab.specs.Call.{Unfused}
+use Rattle.redo_lab.specs.Call.{Unfused, Handed, handed_of}
 use Rattle.redo_lab.proofs.Rereading.{prepared-later}
 use Rattle.redo_lab.proofs.fitted.ready.Goals as goal
-use Rattle.redo_lab.specs.Handed.{Handed, handed_of}
 
 -- whatever was handed beside the devices
 abbrev no_device : Seen

@@ -1,5 +1,5 @@
 use Rattle.std.proofs.Common.{arith, length, length-append, subst, sym, ap, [], ◌∷◌, ◌∙◌}
-use Rattle.redo_follow.specs.Tallying.{HasTally, Kept}
+use Rattle.redo_follow.specs.{HasTally, Kept}
 use Rattle.redo_lab.proofs.Tallied.{AreNew, none-new, one-new}
 use Rattle.redo_lab.proofs.following.make_followers.Goals as goal
 

@@ -1,9 +1,8 @@
-use Rattle.std.proofs.Common.{Global, List, Vec, [], ap, arith, drop, length, refl, subst, sym, vec_capacity}
-use Rattle.std.proofs.Common.{◌+◌, ◌++◌, ◌<◌, ◌∙◌, ◌∷◌, ◌≡◌}
+use Rattle.std.proofs.Common.{Global, List, Vec, [], ap, arith, drop, length, refl, subst, sym, vec_capacity, ◌+◌, ◌++◌, ◌<◌, ◌∙◌, ◌∷◌, ◌≡◌}
 use Rattle.model_report.specs.declared.entry.Followed.{Followed}
-use Rattle.redo_drive.specs.Views.{followers_in}
+use Rattle.redo_drive.specs.{followers_in}
 use Rattle.redo_follow.specs.Following.{Following}
-use Rattle.redo_follow.specs.Tallying.{Kept}
+use Rattle.redo_follow.specs.{Kept}
 use Rattle.redo_lab.proofs.Tallied.{all-told, AreToldUpto, has-room, next-is, next-none, none-told, one-told}
 use Rattle.redo_lab.proofs.following.told_of.Goals.{in-Some+then-len-capacity, in-Some+else-len-capacity, in_default}
 use Rattle.redo_lab.proofs.following.told_of.Goals as goal

@@ -1,6 +1,6 @@
 -- The followers among the actors so far are told.
 use Rattle.std.proofs.Common.{[], drop, length, vec_capacity, ◌≡◌, ◌≤◌}
-use Rattle.redo_drive.specs.Views.{followers_in}
+use Rattle.redo_drive.specs.{followers_in}
 use Rattle.redo_lab.proofs.Tallied.{AreToldUpto}
 use Rattle.redo_lab.proofs.following.told_of.Given as goal
 

@@ -3,8 +3,7 @@ use Rattle.model_script.specs.declared.asked.Command.TheVariants.{Gen}
 use Rattle.redo_lab.proofs.Ends.{ends-failed, uncrashing-gen}
 use Rattle.redo_lab.proofs.Entered.{entries-then}
 use Rattle.redo_lab.proofs.RunEnds.{ends-stopped, only-failed}
-use Rattle.redo_lab.specs.Asked.{drive_of_seed}
-use Rattle.redo_lab.specs.Handed.{call_on}
+use Rattle.redo_lab.specs.Call.{drive_of_seed, call_on}
 use Rattle.redo_lab.specs.Runs.{CommandRuns}
 use Rattle.redo_lab.proofs.gen_command.run_script.Goals as goal
 use Rattle.redo_lab.proofs.gen_command.run_script.Goals.{in-Ended2, in-None, in-Played, in-Some}

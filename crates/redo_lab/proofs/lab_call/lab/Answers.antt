@@ -1,6 +1,6 @@
 use Rattle.std.proofs.Common.{[], ap, inr, refl, rules, sym, ◌∙◌}
 use Rattle.redo_lab.proofs.AskedLimits.{command-of-within}
-use Rattle.redo_lab.specs.Asked.{calls_archive}
+use Rattle.redo_lab.specs.Call.{calls_archive}
 use Rattle.redo_lab.proofs.Alone.{all-left, nothing-ends}
 use Rattle.redo_lab.proofs.lab_call.lab.Goals as goal
 

@@ -7,8 +7,7 @@ use Rattle.redo_lab.proofs.Alone.{alone-behind}
 use Rattle.redo_lab.proofs.Entered.{calls-entry, format-entries}
 use Rattle.redo_lab.proofs.Formats.{format-fails, formats-both}
 use Rattle.redo_lab.proofs.Prepared.{kept-no-store, prepared-formatted, prepared-in-use, read-first, unprepared-formatted, unprepared-read, unprepared-small}
-use Rattle.redo_lab.specs.Call.{guarded}
-use Rattle.redo_lab.specs.Handed.{call_on}
+use Rattle.redo_lab.specs.Call.{guarded, call_on}
 use Rattle.redo_lab.proofs.prepare.prepare.Goals as goal
 
 pub returns-in-Ok-clause-prepares : goal.returns-in-Ok-clause-prepares

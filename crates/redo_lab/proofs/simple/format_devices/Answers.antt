@@ -4,8 +4,7 @@ use Rattle.redo_lab.proofs.Entered.{entries-then, format-entries}
 use Rattle.redo_lab.proofs.Formats.{format-ends, format-fails, format-to, formats-both}
 use Rattle.redo_lab.proofs.Fuses.{unarmed-fresh}
 use Rattle.redo_lab.proofs.Prepared.{kept-no-store}
-use Rattle.redo_lab.specs.Answer.{asked_shape}
-use Rattle.redo_lab.specs.Handed.{call_on}
+use Rattle.redo_lab.specs.Call.{asked_shape, call_on}
 use Rattle.redo_lab.proofs.simple.format_devices.Goals as goal
 use Rattle.redo_lab.proofs.simple.format_devices.Goals.{in-Ok, in-Err}
 

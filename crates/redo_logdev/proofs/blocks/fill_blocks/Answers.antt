@@ -2,7 +2,7 @@ use Rattle.std.proofs.Common.{◌≡◌, ◌-◌, ◌*◌, ℕ, inl, inr, List, 
 use Rattle.std.proofs.lemmas.Bool.{cases_lt}
 use Rattle.model_log.specs.declared.layout.TheConstants.{BLOCK_DATA}
 use Rattle.redo_block.specs.{AreFirsts}
-use Rattle.redo_logdev.specs.Calls.{full_count}
+use Rattle.redo_logdev.specs.Part.{full_count}
 use Rattle.redo_logdev.proofs.Cuts.{firsts-count, firsts-drop, firsts-take}
 use Rattle.redo_logdev.proofs.blocks.fill_blocks.Goals as goal
 

@@ -4,15 +4,13 @@ use Rattle.model_report.specs.declared.entry.Entry.{Entry}
 use Rattle.std.proofs.lemmas.Result.{err_from_is_err_and}
 use Rattle.redo_archive.specs.Part.{Part}
 use Rattle.redo_drive.proofs.LogCount.{log_within_script}
-use Rattle.redo_drive.specs.Archiving.{HasComeTo}
-use Rattle.redo_drive.specs.Archived.{HaveArchived}
+use Rattle.redo_drive.specs.{HasComeTo, HaveArchived, views_of}
 use Rattle.redo_drive.specs.Followed.{HaveFollowed}
-use Rattle.redo_drive.specs.Views.{views_of}
 use Rattle.redo_drive.specs.declared.actor.Actor.{Actor}
 use Rattle.redo_drive.specs.declared.drive.Driven.{Driven}
 use Rattle.redo_machine.proofs.ArchiveStarts.{comes}
 use Rattle.redo_machine.proofs.RunLeft.{TurnsLead, archived, by_turns, followed, owes}
-use Rattle.redo_machine.specs.Appending.{ComesFrom}
+use Rattle.redo_machine.specs.Reading.{ComesFrom}
 use Rattle.redo_machine.specs.ByTurns.{RunsByTurns}
 use Rattle.redo_machine.proofs.drive.run_by_turns.Given as given
 use Rattle.redo_machine.proofs.drive.run_by_turns.Goals as goal
@@ -73,9 +71,9 @@ leads g c =
       data_part = c.finish-closed.ensures.parts.1;
       marks = c.finish-closed.ensures.marks;
       code = c.finish-closed.ensures.code;
-      history = c.finish-closed.ensures.history B.run (is_some c.args.archive) R
+      history = c.finish-closed.ensures.history B.run (is_some c.args.archive) R B.is_run.live_is
           (rw c.run-ended.ensures.entries B.no_entries) room;
-      listed = c.finish-closed.ensures.listed B.run (is_some c.args.archive) R
+      listed = c.finish-closed.ensures.listed B.run (is_some c.args.archive) R B.is_run.live_is
           (rw c.run-ended.ensures.entries B.no_entries) room;
     }
 

@@ -4,8 +4,7 @@ use Rattle.redo_drive.proofs.DataPartLaws.{data_laws}
 use Rattle.redo_drive.proofs.LogPartLaws.{log_laws}
 use Rattle.redo_drive.specs.DataPartSide as data_part
 use Rattle.redo_drive.specs.LogPartSide as log_part
-use Rattle.redo_drive.specs.Playing.{run_data_side, run_log_side}
-use Rattle.redo_drive.specs.Turning.{core_of}
+use Rattle.redo_drive.specs.{run_data_side, run_log_side, core_of}
 use Rattle.redo_machine.proofs.laws.running_machine_has_watermarks.Goals as goal
 
 pub returns : goal.returns

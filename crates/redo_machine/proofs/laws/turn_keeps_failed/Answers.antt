@@ -1,6 +1,5 @@
 use Rattle.model_running.proofs.FailedStays.{turn_keeps_failed}
-use Rattle.redo_drive.specs.Playing.{run_data_side, run_log_side}
-use Rattle.redo_drive.specs.Turning.{core_of}
+use Rattle.redo_drive.specs.{run_data_side, run_log_side, core_of}
 use Rattle.redo_machine.proofs.laws.turn_keeps_failed.Goals as goal
 
 pub returns : goal.returns

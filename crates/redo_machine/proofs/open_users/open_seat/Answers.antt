@@ -1,7 +1,7 @@
 use Rattle.std.proofs.Common.{subst}
 use Rattle.redo_machine.proofs.Ended.{not_all, not_all_first}
 use Rattle.redo_machine.specs.OpenUsers.{IsOpen}
-use Rattle.redo_drive.specs.Views.{view_of, views_of}
+use Rattle.redo_drive.specs.{view_of, views_of}
 use Rattle.redo_drive.specs.declared.actor.Actor.{Actor}
 use Rattle.redo_machine.proofs.open_users.open_seat.Goals as goal
 

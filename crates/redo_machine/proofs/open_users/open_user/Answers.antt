@@ -1,7 +1,7 @@
 use Rattle.std.proofs.Common.{arith, subst}
 use Rattle.redo_machine.proofs.Ended.{all_ended, below_more, first_open}
 use Rattle.redo_machine.specs.OpenUsers.{IsOpen, IsOver}
-use Rattle.redo_drive.specs.Views.{view_of}
+use Rattle.redo_drive.specs.{view_of}
 use Rattle.redo_drive.specs.declared.actor.Actor.{Actor}
 use Rattle.redo_machine.proofs.open_users.open_user.Goals as goal
 

@@ -4,8 +4,7 @@ use Rattle.model_core.specs.declared.ops.Op.{Op}
 use Rattle.model_core.specs.declared.ops.Op.TheVariants as op
 use Rattle.redo_disk.specs.declared.error.DevError.{DevError}
 use Rattle.redo_drive.proofs.Played as played
-use Rattle.redo_drive.specs.Failures.{call_answer}
-use Rattle.redo_drive.specs.Playing.{HasWholePages, LogReady}
+use Rattle.redo_drive.specs.{call_answer, HasWholePages, LogReady}
 use Rattle.redo_drive.specs.declared.device.Device.TheVariants.{Data, Log}
 use Rattle.redo_machine.proofs.WriteAsks.{batch_asks, write_asks}
 use Rattle.redo_machine.proofs.playing.play.Goals as goal

@@ -1,7 +1,7 @@
 use Rattle.std.proofs.Common.{Bool, ap, cond, rules, sym, true, ◌%◌, ◌==◌, ◌∙◌, ◌≡◌}
 use Rattle.model_core.specs.{list_word}
 use Rattle.redo_drive.proofs.Listings.{add_left, found_free}
-use Rattle.redo_drive.specs.Lists.{Listings, added}
+use Rattle.redo_drive.specs.{Listings, added}
 use Rattle.redo_machine.proofs.playing.take_add.Goals as goal
 
 pub returns-clause-lists : goal.returns-clause-lists

@@ -1,14 +1,14 @@
 use Rattle.std.proofs.Common.{List, Option, ap, refl, subst, sym, ◌∙◌, ◌≡◌}
-use Rattle.model_core.specs.Actors as model
+use Rattle.model_core.specs.States as model
 use Rattle.model_core.specs.{next}
 use Rattle.model_core.specs.declared.ops.Op.TheVariants as op
 use Rattle.redo_archive.specs.Part.{Part}
 use Rattle.redo_archiver.specs.{KeepsBlock, MayAppendBlock}
 use Rattle.redo_disk.proofs.Made.{serves_end}
-use Rattle.redo_drive.specs.Views.{view_of}
+use Rattle.redo_drive.specs.{view_of}
 use Rattle.redo_drive.specs.declared.actor.Actor.{Actor}
 use Rattle.redo_machine.proofs.turning.append.Goals as goal
-use Rattle.redo_machine.specs.Appending.{MayAppendTo}
+use Rattle.redo_machine.specs.Reading.{MayAppendTo}
 
 pub returns : goal.returns
 returns g c =

@@ -1,10 +1,10 @@
 use Rattle.std.proofs.Common.{Option, ap, refl, subst, sym, ◌∙◌}
-use Rattle.model_core.specs.Actors as model
+use Rattle.model_core.specs.States as model
 use Rattle.model_core.specs.declared.ops.Op.TheVariants as op
 use Rattle.redo_archiver.specs.Lending as archiving
 use Rattle.redo_disk.specs.declared.error.DevError.{DevError}
 use Rattle.redo_drive.proofs.Played as played
-use Rattle.redo_drive.specs.Failures.{call_answer}
+use Rattle.redo_drive.specs.{call_answer}
 use Rattle.redo_drive.specs.declared.actor.Actor.{Actor}
 use Rattle.redo_drive.specs.declared.actor.Actor.TheVariants as own
 use Rattle.redo_drive.specs.declared.device.Device.TheVariants.{Log}

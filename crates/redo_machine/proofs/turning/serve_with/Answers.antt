@@ -4,13 +4,12 @@ use Rattle.model_core.specs.declared.ops.Answer.{Answer}
 use Rattle.model_core.specs.declared.ops.Op.{Op}
 use Rattle.model_core.specs.declared.ops.Op.TheVariants as op
 use Rattle.redo_drive.proofs.Filled.{serves_by}
-use Rattle.redo_drive.specs.Asking.{AskOfParts}
-use Rattle.redo_drive.specs.Views.{view_of}
+use Rattle.redo_drive.specs.{AskOfParts, view_of}
 use Rattle.redo_drive.specs.declared.actor.Actor.{Actor}
 use Rattle.redo_machine.proofs.Beside.{append_played}
 use Rattle.redo_machine.proofs.WriteAsks.{not_asked}
 use Rattle.redo_machine.proofs.turning.serve_with.Goals as goal
-use Rattle.redo_machine.specs.Appending.{ServesArchive}
+use Rattle.redo_machine.specs.Reading.{ServesArchive}
 
 pub append-answer-requires-clause-archiver : goal.append-answer-requires-clause-archiver
 append-answer-requires-clause-archiver g c = (c.requires.append c.in-Append.mark (sym c.in-Append.ensures)).1

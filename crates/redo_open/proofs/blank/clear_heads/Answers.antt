@@ -1,8 +1,7 @@
 -- What is pending is made to stay, and then the second header block goes, and then the first.
 use Rattle.std.proofs.Common.{◌≡◌, ℕ, subst, arith}
 use Rattle.std.proofs.lemmas.Result.{err_from_is_err_and, on_ok_weaker}
-use Rattle.model_device.specs.{IsWithin, synced}
-use Rattle.model_device.specs.Disk.{Disk}
+use Rattle.model_device.specs.{IsWithin, synced, Disk}
 use Rattle.model_log.specs.declared.layout.TheConstants.{HEADER_BYTES}
 use Rattle.model_parts.specs.{zero_block}
 use Rattle.redo_disk.specs.{HasSize}

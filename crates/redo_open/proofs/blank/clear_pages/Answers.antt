@@ -4,8 +4,7 @@ use Rattle.std.proofs.lemmas.Result.{err_from_is_err_and, on_ok_weaker}
 use Rattle.model_base.proofs.ShapeLimits.{whole_sectors}
 use Rattle.model_base.specs.declared.limits.TheConstants.{BLOCK_SIZE}
 use Rattle.model_parts.proofs.Rows.{row-sector}
-use Rattle.model_device.specs.{synced}
-use Rattle.model_device.specs.Disk.{Disk}
+use Rattle.model_device.specs.{synced, Disk}
 use Rattle.model_page.specs.{data_device_length}
 use Rattle.redo_disk.specs.{HasSize}
 use Rattle.redo_open.specs.Blank.{HasBlankPages}

@@ -3,7 +3,7 @@ use Rattle.std.proofs.Common.{◌≡◌, ℕ, List, subst, arith}
 use Rattle.std.proofs.lemmas.Result.{err_from_is_err_and, on_ok_weaker}
 use Rattle.model_base.specs.declared.limits.TheConstants.{START_LSN}
 use Rattle.model_base.specs.declared.shape.Shape.{Shape}
-use Rattle.model_device.specs.Disk.{Disk}
+use Rattle.model_device.specs.{Disk}
 use Rattle.model_log.specs.{checkpoint_text, head_text, run_layout, run_format}
 use Rattle.model_log.specs.declared.layout.Layout.{Layout}
 use Rattle.redo_disk.proofs.Told.{OnTold-then, told-as}

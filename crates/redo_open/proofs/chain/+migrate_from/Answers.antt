@@ -3,7 +3,7 @@ use Rattle.std.proofs.Common.{◌∙◌, Option, Ok, sym, subst}
 use Rattle.std.specs.Prelude.{IfSome}
 use Rattle.model_log.specs.declared.head.Format.{Format}
 use Rattle.model_log.specs.declared.head.Format.TheVariants.{Three}
-use Rattle.model_store.specs.Reading.{Reading}
+use Rattle.model_store.specs.{Reading}
 use Rattle.redo_open.proofs.Asked.{called_then}
 use Rattle.redo_open.proofs.Chains.{last-format, link-then, no-link}
 use Rattle.redo_open.proofs.Inside.{inside_behind}

@@ -1,7 +1,7 @@
 -- The link from format 1 leaves the data device alone.
 use Rattle.std.proofs.Common.{refl, subst, sym, arith}
 use Rattle.std.specs.Prelude.{IfSome}
-use Rattle.model_store.specs.Reading.{Reading}
+use Rattle.model_store.specs.{Reading}
 use Rattle.redo_open.proofs.Chains.{first-beside}
 use Rattle.redo_open.specs.Chain.{LinkStep, next_format}
 use Rattle.redo_recover.specs.{reading_of}

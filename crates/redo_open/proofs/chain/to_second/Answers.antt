@@ -1,5 +1,5 @@
 -- The log becomes one of format 2.
-use Rattle.model_store.specs.Reading.{Reading}
+use Rattle.model_store.specs.{Reading}
 use Rattle.redo_open.proofs.Chains.{first-failed, first-linked}
 use Rattle.redo_open.proofs.Asked.{log_ends}
 use Rattle.redo_open.proofs.Inside.{ends_of, puts_of}

@@ -1,7 +1,7 @@
 -- The slots and places, and then the headers, of a store that doesn't have those of a run.
 use Rattle.std.proofs.Common.{◌≡◌, ◌∙◌, Ok, Err, sym, arith}
 use Rattle.model_base.specs.{IsEarly, run_shape}
-use Rattle.model_store.specs.Reading.{Reading}
+use Rattle.model_store.specs.{Reading}
 use Rattle.redo_open.proofs.Causes.{data-cause, data-not_log, data-risen, log-cause, log-not_data, log-risen}
 use Rattle.redo_open.proofs.Inside.{puts_of, within-longer}
 use Rattle.redo_open.proofs.Puts.{put_weaker}

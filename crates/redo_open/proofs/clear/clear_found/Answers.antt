@@ -9,8 +9,7 @@ use Rattle.model_log.proofs.Layouts.{has-blocks}
 use Rattle.model_log.proofs.Places.{place-within, sector-place}
 use Rattle.model_parts.specs.{IsOfTail}
 use Rattle.model_store.specs.declared.tail.Tail.{Tail}
-use Rattle.redo_disk.specs.{IsRange, write_at, WriteStep}
-use Rattle.redo_disk.specs.Seen.{Seen}
+use Rattle.redo_disk.specs.{IsRange, write_at, WriteStep, Seen}
 use Rattle.redo_disk.specs.declared.error.DevError.{DevError}
 use Rattle.redo_open.specs.Clear.{ring_end}
 use Rattle.redo_open.specs.Zeroing.{ZeroStep}

@@ -6,8 +6,7 @@ use Rattle.model_device.specs.{Covers}
 use Rattle.model_log.specs.{place_in, round_of}
 use Rattle.model_log.specs.declared.layout.Layout.{Layout}
 use Rattle.model_log.proofs.Places.{sector-place}
-use Rattle.redo_disk.specs.{write_at, WriteStep}
-use Rattle.redo_disk.specs.Seen.{Seen}
+use Rattle.redo_disk.specs.{write_at, WriteStep, Seen}
 use Rattle.redo_disk.specs.declared.error.DevError.{DevError}
 use Rattle.redo_open.specs.Clear.{IsPiece, IsRingTo, ring_end}
 use Rattle.redo_open.specs.Zeroing.{ZeroStep}

@@ -7,10 +7,9 @@ use Rattle.model_base.specs.declared.shape.Shape.{Shape}
 use Rattle.model_log.specs.{read_head, sector_at}
 use Rattle.model_log.specs.declared.head.Format.{Format}
 use Rattle.model_log.specs.declared.head.Head.TheVariants.{Good}
-use Rattle.redo_disk.specs.Seen.{Seen}
+use Rattle.redo_disk.specs.{Seen}
 use Rattle.redo_disk.specs.declared.error.DevError.{DevError}
-use Rattle.redo_open.specs.Heads.{PutsHead}
-use Rattle.redo_open.specs.Put.{block_write, PutStep}
+use Rattle.redo_open.specs.Put.{PutsHead, block_write, PutStep}
 use Rattle.redo_open.proofs.Alike.{alike-already, alike-first, alike-neither, alike-second}
 use Rattle.redo_open.proofs.Puts.{put_served}
 use Rattle.redo_open.proofs.heads.make_alike.Goals as goal

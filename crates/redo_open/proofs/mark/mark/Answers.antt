@@ -5,7 +5,7 @@ use Rattle.model_log.specs.{checkpoint_text, layout_of, place_of}
 use Rattle.model_log.specs.declared.head.Format.{Format}
 use Rattle.model_log.specs.declared.layout.Layout.{Layout}
 use Rattle.model_parts.specs.{next_number}
-use Rattle.redo_disk.specs.Seen.{Seen}
+use Rattle.redo_disk.specs.{Seen}
 use Rattle.redo_disk.specs.declared.error.DevError.{DevError}
 use Rattle.redo_open.specs.Mark.{next_text}
 use Rattle.redo_open.specs.Put.{PutStep}

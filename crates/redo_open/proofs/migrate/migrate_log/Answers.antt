@@ -5,12 +5,10 @@ use Rattle.model_base.specs.declared.shape.Shape.{Shape}
 use Rattle.model_device.specs.{IsWithin}
 use Rattle.model_log.specs.{checkpoint_text, log_device_length, place_of, run_layout}
 use Rattle.model_log.specs.declared.layout.Layout.{Layout}
-use Rattle.redo_disk.specs.{Call, HasCause, MakesCalls, OnTold}
-use Rattle.redo_disk.specs.Seen.{Seen}
+use Rattle.redo_disk.specs.{Call, HasCause, MakesCalls, OnTold, Seen}
 use Rattle.redo_disk.specs.declared.error.DevError.{DevError}
 use Rattle.redo_open.specs.Erase.{ErasesIn, HasZeros, Reaches}
-use Rattle.redo_open.specs.Migrate.{MigrateStep}
-use Rattle.redo_open.specs.Put.{IsAtRestTo, PutStep}
+use Rattle.redo_open.specs.Put.{MigrateStep, IsAtRestTo, PutStep}
 use Rattle.redo_open.specs.Puts.{PutsWhere}
 use Rattle.redo_open.proofs.Lengths.{checkpoint-within, head-within}
 use Rattle.redo_open.proofs.Migrates.{Come, erase-come, erase-fails, first-ends, IsErasedLog, next-come, next-fails, second-come, second-fails}

@@ -4,19 +4,17 @@ use Rattle.std.specs.Prelude.{Result}
 use Rattle.model_base.specs.{IsWithinLimits, run_shape}
 use Rattle.model_base.specs.declared.shape.Shape.{Shape}
 use Rattle.model_log.specs.{layout_of}
-use Rattle.model_store.specs.Reading.{Reading}
-use Rattle.redo_disk.specs.{Call, MayEndWith}
-use Rattle.redo_disk.specs.Seen.{Seen}
+use Rattle.model_store.specs.{Reading}
+use Rattle.redo_disk.specs.{Call, MayEndWith, Seen}
 use Rattle.redo_disk.specs.declared.error.DevError.TheVariants as device
 use Rattle.redo_open.proofs.Asked.{called_then, started_called}
 use Rattle.redo_open.proofs.Inside.{inside_behind, inside_run, puts_of, started_inside}
 use Rattle.redo_open.proofs.Puts.{put_nothing}
-use Rattle.redo_open.specs.Formatting.{WritesInside}
+use Rattle.redo_open.specs.Opening.{WritesInside, OpensRecovered}
 use Rattle.redo_disk.proofs.Made.{none_may_end, out_of_memory}
 use Rattle.redo_recover.specs.{AreNotAhead, data_error, log_error, reading_of}
 use Rattle.redo_open.specs.Clear.{MayStart}
 use Rattle.redo_open.specs.Devices.{AreCalled, DevicesStep}
-use Rattle.redo_open.specs.Opening.{OpensRecovered}
 use Rattle.redo_open.proofs.Recovered.{failed-before, IsStartable, may-start, not-ahead-of-start, recovered-none, recovered-failed, recovered-started, then-linked}
 use Rattle.redo_recover.specs.declared.fault.RecFault.{RecFault}
 use Rattle.redo_recover.specs.declared.fault.RecFault.TheVariants.{NoMemory}

@@ -3,17 +3,16 @@ use Rattle.std.proofs.Common.{◌≡◌, ◌∙◌, ◌≤◌, ℕ, Option, Err,
 use Rattle.std.specs.Prelude.{Result}
 use Rattle.model_base.specs.{run_shape}
 use Rattle.model_base.specs.declared.shape.Shape.{Shape}
-use Rattle.model_device.specs.{IsWithin}
-use Rattle.model_device.specs.Disk.{Disk}
+use Rattle.model_device.specs.{IsWithin, Disk}
 use Rattle.model_log.specs.{log_device_length}
 use Rattle.model_page.specs.{data_device_length}
 use Rattle.model_log.specs.declared.head.Format.{Format}
-use Rattle.model_store.specs.Reading.{Reading}
+use Rattle.model_store.specs.{Reading, AreFoundIn, IsReading}
 use Rattle.redo_disk.specs.{Call, error_of, MakesCalls, MayEndWith, part}
 use Rattle.redo_disk.specs.declared.error.DevError.{DevError}
 use Rattle.redo_disk.proofs.Made.{call_ends, may_end}
 use Rattle.redo_disk.proofs.Told.{still-same, still-then}
-use Rattle.redo_open.specs.Heads.{PutsHead}
+use Rattle.redo_open.specs.Put.{PutsHead}
 use Rattle.redo_open.specs.Opening.{HasOpeningCauseIn, OpensLog, OpensSafely, data_device_left, log_device_left}
 use Rattle.redo_open.specs.Places.{IsPageFault}
 use Rattle.redo_open.specs.Puts.{ArePuts, PutsWhere}
@@ -28,7 +27,6 @@ use Rattle.redo_open.proofs.Still.{content-same, contents-back, contents-same, m
 use Rattle.redo_open.proofs.Told.{cause-since}
 use Rattle.redo_recover.proofs.Only.{log-fault, log-then}
 use Rattle.model_parts.specs.{found_layout}
-use Rattle.model_store.specs.{AreFoundIn, IsReading}
 use Rattle.redo_recover.specs.{AreFoundOn, data_error, HasCauseIn, IsLengthFault, log_error, reading_of}
 use Rattle.redo_recover.specs.declared.fault.RecFault.{RecFault}
 use Rattle.redo_open.proofs.opening.open_store.Goals as goal

@@ -6,7 +6,7 @@ use Rattle.model_parts.specs.{KeepsAll, read_as}
 use Rattle.model_device.specs.{settled}
 use Rattle.model_page.specs.declared.content.Content.{Content}
 use Rattle.redo_disk.proofs.Told.{known-as, told-step}
-use Rattle.redo_disk.specs.Seen.{Seen}
+use Rattle.redo_disk.specs.{Seen}
 use Rattle.redo_disk.specs.declared.error.DevError.{DevError}
 use Rattle.redo_open.proofs.Asked.{data_ends}
 use Rattle.redo_open.proofs.Endings.{device-own, device-failed}

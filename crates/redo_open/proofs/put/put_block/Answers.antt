@@ -1,8 +1,7 @@
 -- One sector is written, and a sync makes that stay.
 use Rattle.std.proofs.Common.{◌≡◌, ◌*◌, sym, subst, ap, ◌∙◌, ⊎_elim}
 use Rattle.std.proofs.lemmas.Result.{on_err_weaker, on_ok_weaker}
-use Rattle.model_device.specs.{IsPutOrNot, synced, written}
-use Rattle.model_device.specs.Disk.{Disk}
+use Rattle.model_device.specs.{IsPutOrNot, synced, written, Disk}
 use Rattle.model_device.specs.declared.write.Write.{Write}
 use Rattle.redo_disk.specs.{write_at}
 use Rattle.redo_disk.proofs.Told.{told-as}

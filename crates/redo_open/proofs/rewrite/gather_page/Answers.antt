@@ -8,7 +8,7 @@ use Rattle.redo_open.proofs.Gathers.{added, gathered-more, gathered-writable, sa
 use Rattle.redo_open.proofs.GatherSteps.{added-step, failed-step, kept-step}
 use Rattle.redo_open.proofs.Puts.{put_nothing}
 use Rattle.redo_open.proofs.Writings.{PageRead, lsn-read, page-read}
-use Rattle.redo_open.specs.Gather.{Gathered, GatherStep}
+use Rattle.redo_open.specs.Rewrite.{Gathered, GatherStep}
 use Rattle.redo_open.proofs.rewrite.gather_page.Goals as goal
 
 pub returns-then-index-lsn-clause-step : goal.returns-then-index-lsn-clause-step

@@ -10,7 +10,7 @@ use Rattle.redo_open.proofs.Gathers.{gathered-writable}
 use Rattle.redo_open.proofs.GatherSteps.{written-step}
 use Rattle.redo_disk.specs.{error_of, MakesCalls}
 use Rattle.redo_open.proofs.Puts.{puts_then}
-use Rattle.redo_open.specs.Gather.{AreGathered, GatherStep, IsGatheredTo}
+use Rattle.redo_open.specs.Rewrite.{AreGathered, GatherStep, IsGatheredTo}
 use Rattle.redo_open.specs.Puts.{PutsWhere}
 use Rattle.redo_open.proofs.rewrite.rewrite.Goals as goal
 

@@ -4,9 +4,8 @@ use Rattle.model_device.specs.{IsWithin}
 use Rattle.model_page.specs.{data_device_length}
 use Rattle.model_page.specs.declared.content.Content.{Content}
 use Rattle.redo_disk.specs.{MakesCalls}
-use Rattle.redo_open.specs.Gather.{AreGathered, IsGatheredTo}
+use Rattle.redo_open.specs.Rewrite.{AreGathered, IsGatheredTo, AreTop, IsWrittenTo}
 use Rattle.redo_open.specs.Puts.{PutsWhere}
-use Rattle.redo_open.specs.Rewrite.{AreTop, IsWrittenTo}
 use Rattle.redo_open.proofs.rewrite.rewrite.Given as goal
 
 abbrev pub invariant-loop-page : goal.invariant-loop-page

@@ -5,7 +5,7 @@ use Rattle.model_parts.specs.{IsWritable}
 use Rattle.redo_open.proofs.Gathers.{gathered-none}
 use Rattle.redo_open.proofs.GatherSteps.{wrote-step}
 use Rattle.redo_open.proofs.PagesInside.{batch_served}
-use Rattle.redo_open.specs.Gather.{AreGathered, Gathered, GatherStep}
+use Rattle.redo_open.specs.Rewrite.{AreGathered, Gathered, GatherStep}
 use Rattle.redo_open.proofs.rewrite.write_gathered.Goals as goal
 
 pub returns-in_err-write_batch-clause-step : goal.returns-in_err-write_batch-clause-step

@@ -1,8 +1,7 @@
 -- One write after the other.
 use Rattle.std.proofs.Common.{◌≡◌, ◌+◌, ◌∙◌, ℕ, Err, refl, sym, subst, arith}
 use Rattle.std.proofs.lemmas.Result.{err_from_is_err_and}
-use Rattle.model_device.specs.{FailsWrite, written}
-use Rattle.model_device.specs.Disk.{Disk}
+use Rattle.model_device.specs.{FailsWrite, written, Disk}
 use Rattle.redo_disk.specs.{HasCause, OnTold}
 use Rattle.redo_open.specs.Erase.{Erases, HasErased, Reaches}
 use Rattle.redo_open.proofs.Inside.{zeros-within}

@@ -1,8 +1,7 @@
 -- The stretch is erased, and a sync makes that stay.
 use Rattle.std.proofs.Common.{◌≡◌, refl, sym, subst, ap, ◌∙◌}
 use Rattle.std.proofs.lemmas.Result.{err_from_is_err_and, on_ok_weaker, on_err_weaker}
-use Rattle.model_device.specs.{synced}
-use Rattle.model_device.specs.Disk.{Disk}
+use Rattle.model_device.specs.{synced, Disk}
 use Rattle.redo_disk.proofs.Told.{OnTold-then, on-err, told-as, told-same}
 use Rattle.redo_open.specs.Erase.{Erases, ErasesIn, HasErased, HasZeros, Reaches}
 use Rattle.redo_open.specs.Put.{IsAtRestTo}

@@ -3,8 +3,7 @@ use Rattle.std.proofs.Common.{Option, length, rules, subst, sym}
 use Rattle.std.proofs.lemmas.Result.{err_from_is_err_and}
 use Rattle.redo_archive.specs.Part.{Part}
 use Rattle.redo_drive.proofs.LogCount.{log_within_script}
-use Rattle.redo_drive.specs.Archived.{HaveArchived}
-use Rattle.redo_drive.specs.Views.{views_of}
+use Rattle.redo_drive.specs.{HaveArchived, views_of}
 use Rattle.redo_ownmachine.proofs.RunLeft.{OwnTurnsLead, archived, by_turns, followed, owes}
 use Rattle.redo_ownmachine.proofs.drive.run_own_by_turns.Given as given
 use Rattle.redo_ownmachine.proofs.drive.run_own_by_turns.Goals as goal
@@ -55,8 +54,10 @@ leads g c =
       data_part = c.finish-closed.ensures.parts.1;
       marks = c.finish-closed.ensures.marks;
       code = c.finish-closed.ensures.code;
-      history = c.finish-closed.ensures.history B.begins.run (is_some c.args.archive) R empty room;
-      listed = c.finish-closed.ensures.listed B.begins.run (is_some c.args.archive) R empty room;
+      history = c.finish-closed.ensures.history B.begins.run (is_some c.args.archive) R
+          B.begins.is_run.live_is empty room;
+      listed = c.finish-closed.ensures.listed B.begins.run (is_some c.args.archive) R
+          B.begins.is_run.live_is empty room;
     }
 
 pub returns-in_err-machine : goal.returns-in_err-machine

@@ -1,6 +1,5 @@
 use Rattle.model_running.proofs.Watermarks.{has_watermarks}
-use Rattle.redo_drive.specs.Playing.{run_data_side, run_log_side}
-use Rattle.redo_drive.specs.Turning.{core_of}
+use Rattle.redo_drive.specs.{run_data_side, run_log_side, core_of}
 use Rattle.redo_ownmachine.proofs.Serves.{its_data_laws, its_log_laws}
 use Rattle.redo_ownmachine.proofs.laws.own_machine_has_watermarks.Goals as goal
 use Rattle.redo_ownmachine.specs.OwnSeats.{actors_of}

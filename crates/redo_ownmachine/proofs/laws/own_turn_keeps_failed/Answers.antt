@@ -1,7 +1,7 @@
-use Rattle.redo_drive.specs.Playing.{run_data_side, run_log_side}
+use Rattle.redo_drive.specs.{run_data_side, run_log_side}
 use Rattle.redo_ownmachine.proofs.Failing.{own_turn_keeps_failed}
 use Rattle.redo_ownmachine.proofs.laws.own_turn_keeps_failed.Goals as goal
-use Rattle.redo_ownmachine.specs.OwnAsking.{own_core_of}
+use Rattle.redo_ownmachine.specs.OwnStore.{own_core_of}
 
 pub returns : goal.returns
 returns g c = λ run archive old new seats after seat step R t failed.

@@ -2,7 +2,7 @@ use Rattle.std.proofs.Common.{List, ap, refl, sym, ◌++◌, ◌∙◌, ◌∷�
 use Rattle.std.proofs.lemmas.Iterator.Adapters.{YieldsList-from_vec}
 use Rattle.std.proofs.lemmas.Iterator.Consumers.{YieldsList-end}
 use Rattle.std.proofs.lemmas.List.{map-id}
-use Rattle.model_own.specs.OwnWrites.{LogWork, OwnUser}
+use Rattle.model_own.specs.{LogWork, OwnUser}
 use Rattle.redo_drive.specs.declared.actor.Actor.{Actor}
 use Rattle.redo_drive.specs.declared.actor.Actor.TheVariants as own
 use Rattle.redo_ownmachine.proofs.Sorting.{Sorted, has_flusher, has_writer, its_crew, its_home, none_yet, put_more, put_other, sorted}

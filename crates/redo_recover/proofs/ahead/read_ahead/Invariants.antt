@@ -1,8 +1,7 @@
 use Rattle.std.proofs.Common.{◌≡◌, ◌≤◌, None, length}
-use Rattle.redo_recover.specs.Devices.{OnContent}
+use Rattle.redo_recover.specs.Devices.{OnContent, IsOnlyRead}
 use Rattle.redo_recover.specs.Full.{AreFullIn, HasBounds}
 use Rattle.redo_recover.specs.Piece.{IsPieceOf}
-use Rattle.redo_recover.specs.Reads.{IsOnlyRead}
 use Rattle.redo_recover.specs.Taking.{AreTailsOf}
 use Rattle.redo_recover.proofs.ahead.read_ahead.Given as goal
 

@@ -1,10 +1,9 @@
 use Rattle.std.proofs.Common.{◌≡◌, length}
 use Rattle.redo_recover.specs.Blocks.{AreBounded}
 use Rattle.std.specs.Prelude.{None}
-use Rattle.redo_recover.specs.Devices.{OnContent, OnSource}
+use Rattle.redo_recover.specs.Devices.{OnContent, OnSource, IsOnlyRead}
 use Rattle.redo_recover.specs.Full.{AreBlocksSoFar, AreStanding}
 use Rattle.redo_recover.specs.Piece.{IsPieceOf}
-use Rattle.redo_recover.specs.Reads.{IsOnlyRead}
 use Rattle.redo_recover.specs.Taking.{AreTailsOf}
 use Rattle.redo_recover.proofs.blocks.read_blocks.Given as goal
 

@@ -6,8 +6,7 @@ use Rattle.redo_recover.proofs.Contents.{content-both}
 use Rattle.redo_recover.proofs.Keeping.{part-is, place-range}
 use Rattle.redo_recover.proofs.Only.{only-data}
 use Rattle.redo_recover.proofs.Unchanged.{content-after}
-use Rattle.redo_recover.specs.Pages.{HoldsSlots, PutsKept}
-use Rattle.redo_recover.specs.Places.{IsFoundAt}
+use Rattle.redo_recover.specs.Pages.{HoldsSlots, PutsKept, IsFoundAt}
 use Rattle.redo_recover.proofs.kept.keep_page.Goals as goal
 
 pub read_part-requires : goal.read_part-requires

@@ -8,8 +8,7 @@ use Rattle.redo_recover.proofs.Only.{only-none, only-own, only-then}
 use Rattle.redo_recover.proofs.Placing.{at-next, at-none, with-next, with-none}
 use Rattle.redo_recover.proofs.Unchanged.{content-after}
 use Rattle.redo_recover.proofs.Paging.{AreKeptFirst}
-use Rattle.redo_recover.specs.Pages.{HoldsSlots, IsFirstLostFault}
-use Rattle.redo_recover.specs.Places.{AreFoundAt}
+use Rattle.redo_recover.specs.Pages.{HoldsSlots, IsFirstLostFault, AreFoundAt}
 use Rattle.redo_recover.proofs.kept.keep_pages.Goals as goal
 
 pub returns-in_err-one-clause-fault : goal.returns-in_err-one-clause-fault

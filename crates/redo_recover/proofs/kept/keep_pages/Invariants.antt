@@ -2,9 +2,8 @@
 use Rattle.std.proofs.Common.{◌≡◌, ◌≤◌, None, vec_capacity, vec_len}
 use Rattle.redo_apply.specs.{ArePagesOf}
 use Rattle.redo_recover.proofs.Paging.{AreKeptFirst}
-use Rattle.redo_recover.specs.Devices.{OnContent}
-use Rattle.redo_recover.specs.Places.{AreFoundAt, AreFoundWith}
-use Rattle.redo_recover.specs.Reads.{IsOnlyRead}
+use Rattle.redo_recover.specs.Devices.{OnContent, IsOnlyRead}
+use Rattle.redo_recover.specs.Pages.{AreFoundAt, AreFoundWith}
 use Rattle.redo_recover.proofs.kept.keep_pages.Given as goal
 
 abbrev pub invariant-loop-page : goal.invariant-loop-page

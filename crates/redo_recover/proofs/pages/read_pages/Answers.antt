@@ -9,7 +9,7 @@ use Rattle.redo_recover.proofs.Keeping.{slots-range}
 use Rattle.redo_recover.proofs.Only.{only-data, only-own, only-then}
 use Rattle.redo_recover.proofs.Paging.{pages-read}
 use Rattle.redo_recover.proofs.Placing.{found-read, places-of}
-use Rattle.redo_recover.specs.Reads.{data_error}
+use Rattle.redo_recover.specs.Devices.{data_error}
 use Rattle.redo_recover.specs.Pages.{AreKept, IsPageFault}
 use Rattle.redo_recover.specs.declared.fault.RecFault.TheVariants.{NoMemory}
 use Rattle.redo_recover.proofs.pages.read_pages.Goals as goal

@@ -5,10 +5,9 @@ use Rattle.model_log.specs.declared.group.Whole.{Whole}
 use Rattle.model_log.specs.declared.layout.Layout.{Layout}
 use Rattle.model_log.specs.{IsStop, layout_of}
 use Rattle.model_store.specs.{AreFoundIn, IsScan}
-use Rattle.redo_recover.specs.Devices.{OnContent, OnSource}
+use Rattle.redo_recover.specs.Devices.{OnContent, OnSource, data_error, log_error}
 use Rattle.redo_recover.specs.Groups.{IsScanFault}
 use Rattle.redo_recover.specs.Reading.{IsScanOf}
-use Rattle.redo_recover.specs.Reads.{data_error, log_error}
 use Rattle.redo_recover.proofs.Causing.{page-cause, reading-of, scan-cause}
 use Rattle.redo_recover.proofs.Only.{log-own, log-then, only-none, only-own}
 use Rattle.redo_recover.proofs.Owning.{own-apart, page-apart, page-lengths, scan-apart, scan-lengths}

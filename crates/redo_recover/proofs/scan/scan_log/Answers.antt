@@ -1,7 +1,7 @@
 use Rattle.std.proofs.Common.{length, arith}
 use Rattle.model_store.specs.{groups_start}
 use Rattle.std.proofs.lemmas.Result.{err_from_is_err_and}
-use Rattle.redo_recover.specs.Reads.{log_error}
+use Rattle.redo_recover.specs.Devices.{log_error}
 use Rattle.redo_recover.proofs.Only.{only-log, only-own}
 use Rattle.redo_recover.proofs.Owning.{parse-own}
 use Rattle.redo_recover.proofs.Parsing.{parsed-behind, parsed-fit}

@@ -5,8 +5,7 @@ use Rattle.model_log.specs.declared.layout.Layout.{Layout}
 use Rattle.model_store.proofs.Heads.{checkpoint-bounds}
 use Rattle.redo_disk.specs.{HasSize}
 use Rattle.redo_disk.proofs.Told.{still-known}
-use Rattle.redo_recover.specs.Devices.{HasCauseIn, reread}
-use Rattle.redo_recover.specs.Reads.{log_error}
+use Rattle.redo_recover.specs.Devices.{HasCauseIn, reread, log_error}
 use Rattle.redo_recover.specs.Recovery.{IsCaused}
 use Rattle.redo_recover.specs.Start.{IsLengthFault}
 use Rattle.redo_recover.specs.declared.fault.RecFault.{RecFault}

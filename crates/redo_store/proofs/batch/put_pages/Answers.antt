@@ -1,7 +1,7 @@
 use Rattle.std.proofs.Common.{◌≡◌, ◌*◌, ℕ, List, length, take, arith}
 use Rattle.std.proofs.lemmas.Result.{on_ok_weaker, on_err_weaker}
 use Rattle.model_parts.specs.{after_both, batch_of, FailsBoth, place_writes, slots_write}
-use Rattle.model_device.specs.Disk.{Disk}
+use Rattle.model_device.specs.{Disk}
 use Rattle.redo_disk.proofs.Told.{told-as}
 use Rattle.redo_disk.specs.{error_of, write_at}
 use Rattle.redo_store.specs.Places.{text_writes}

@@ -1,12 +1,10 @@
 use Rattle.std.proofs.Common.{◌≡◌, ◌<◌, ◌+◌, ◌-◌, ◌*◌, ℕ, List, take, drop, arith}
 use Rattle.std.proofs.lemmas.Result.{err_from_is_err_and, on_ok_weaker, on_err_weaker}
 use Rattle.model_parts.specs.{FailsPutBack, IsPutBack, SameSlots}
-use Rattle.model_device.specs.{IsPutOrNot, synced, written}
-use Rattle.model_device.specs.Disk.{Disk}
+use Rattle.model_device.specs.{IsPutOrNot, synced, written, Disk}
 use Rattle.redo_dblwr.proofs.Ranges.{length-row, place-range}
 use Rattle.redo_disk.specs.{error_of, write_at}
-use Rattle.redo_store.proofs.Repaired.{slot-part, put-back, put-failed, read-then}
-use Rattle.redo_store.proofs.Repaired.{repair-unread, repair-none, repair-put}
+use Rattle.redo_store.proofs.Repaired.{slot-part, put-back, put-failed, read-then, repair-unread, repair-none, repair-put}
 use Rattle.redo_store.proofs.mend.put_back.Goals as goal
 
 pub returns-in_err-read_slots-clause-calls : goal.returns-in_err-read_slots-clause-calls

@@ -4,7 +4,7 @@ use Rattle.redo_dblwr.proofs.Ranges.{front-range}
 use Rattle.redo_disk.specs.{IsRange}
 use Rattle.redo_disk.proofs.Made.{serves_then, serves_cut}
 use Rattle.redo_store.specs.Places.{text_writes}
-use Rattle.redo_store.specs.Requests.{all_put}
+use Rattle.redo_store.specs.Part.{all_put}
 use Rattle.redo_store.proofs.places.put_both.Goals as goal
 
 pub returns-in_err-write_and_sync-clause-calls : goal.returns-in_err-write_and_sync-clause-calls

@@ -3,8 +3,7 @@ use Rattle.std.specs.List.{slice_get}
 use Rattle.std.proofs.lemmas.List.{take_all}
 use Rattle.std.proofs.lemmas.Result.{err_from_is_err_and}
 use Rattle.std.proofs.lemmas.Option.{slice_get-get_or}
-use Rattle.model_device.specs.Disk.{Disk}
-use Rattle.model_device.specs.{FailsWrite, written}
+use Rattle.model_device.specs.{Disk, FailsWrite, written}
 use Rattle.model_device.specs.declared.write.Write.{Write}
 use Rattle.redo_dblwr.proofs.Ranges.{length-row, place-range}
 use Rattle.redo_disk.specs.{MakesCalls, Serve, ToWrite, write_at}

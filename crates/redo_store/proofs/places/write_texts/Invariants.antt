@@ -1,5 +1,5 @@
 use Rattle.std.proofs.Common.{◌≡◌, ◌≤◌, map, take, None}
-use Rattle.model_device.specs.Disk.{Disk}
+use Rattle.model_device.specs.{Disk}
 use Rattle.redo_disk.specs.{MakesCalls, OnTold, Serve, ToWrite}
 use Rattle.redo_store.specs.Places.{text_writes}
 use Rattle.model_parts.specs.{written_all}

@@ -1,11 +1,10 @@
 use Rattle.std.proofs.Common.{◌≡◌, ◌≤◌, ◌*◌, ℕ, length, Some, sym, ap, subst, ◌∙◌}
-use Rattle.model_device.specs.Disk.{Disk}
+use Rattle.model_device.specs.{Disk}
 use Rattle.model_log.specs.{block_of, last_span_end, spans_of}
 use Rattle.model_archive.specs.{after_append, after_asking, archive_place, AreArchivedBlocks, HasNextMark}
 use Rattle.redo_disk.specs.{IsRange, write_at}
 use Rattle.redo_disk.proofs.Told.{told-step}
-use Rattle.redo_archive.specs.Calls.{after_two, FailsTwo}
-use Rattle.redo_archive.specs.Part.{DiskArchives, MayAppend, Part, PartArchives}
+use Rattle.redo_archive.specs.Part.{after_two, FailsTwo, DiskArchives, MayAppend, Part, PartArchives}
 use Rattle.redo_archive.proofs.Appends.{append-failed, append-made, append-range, AreWrites, asked-of, IsAsked}
 use Rattle.redo_archive.proofs.part.ArchPart.append.Goals as goal
 

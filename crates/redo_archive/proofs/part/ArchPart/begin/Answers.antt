@@ -1,6 +1,5 @@
 use Rattle.std.proofs.Common.{◌≡◌, [], None, refl, arith}
-use Rattle.model_device.specs.{settled}
-use Rattle.model_device.specs.Disk.{Disk}
+use Rattle.model_device.specs.{settled, Disk}
 use Rattle.model_archive.specs.{base_text, begun_bytes, begun_marks}
 use Rattle.redo_disk.specs.{HasSize}
 use Rattle.redo_disk.proofs.Told.{told-step}

@@ -1,7 +1,7 @@
 use Rattle.std.proofs.Common.{subst, sym}
 use Rattle.redo_drive.proofs.Taken.{archiver_took, follower_took}
 use Rattle.redo_drive.specs.Receiving.{HasTaken, MarkFits}
-use Rattle.redo_drive.specs.Views.{view_of}
+use Rattle.redo_drive.specs.History.{view_of}
 use Rattle.redo_drive.specs.declared.actor.Actor.{Actor}
 use Rattle.redo_drive.specs.declared.actor.Actor.TheVariants as own
 use Rattle.redo_drive.proofs.actor.Actor.took.Goals as goal

@@ -1,6 +1,6 @@
 use Rattle.std.proofs.Common.{◌∙◌, ap, sym}
 use Rattle.model_core.specs.{next_block}
-use Rattle.model_log.specs.Block.{read_block}
+use Rattle.model_log.specs.{read_block}
 use Rattle.redo_follow.proofs.Pieces.{end_of_none, end_of_read}
 use Rattle.redo_follow.proofs.follower.Follower.data_end.Goals as goal
 

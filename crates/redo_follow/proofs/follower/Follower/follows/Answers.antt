@@ -1,6 +1,6 @@
 use Rattle.std.proofs.Common.{[], ◌+◌, ◌++◌, ◌≡◌, ◌∙◌, List, ap, arith, drop, subst, sym, take, ℕ}
 use Rattle.model_core.specs.{next_piece, pending, ReaderState}
-use Rattle.model_core.specs.Lsn.{lsn}
+use Rattle.model_core.specs.Lanes.{lsn}
 use Rattle.redo_follow.specs.Handing.{Followed, HandsOn}
 use Rattle.redo_follow.specs.Following.{Following}
 use Rattle.redo_follow.proofs.WholeGroups.{followed_so}

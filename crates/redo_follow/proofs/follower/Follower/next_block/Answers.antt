@@ -1,4 +1,4 @@
-use Rattle.model_core.specs.Lsn.{lsn}
+use Rattle.model_core.specs.Lanes.{lsn}
 use Rattle.redo_follow.proofs.Pieces.{next_block_is}
 use Rattle.redo_follow.proofs.follower.Follower.next_block.Goals as goal
 

@@ -1,5 +1,5 @@
 use Rattle.std.proofs.Common.{subst, sym}
-use Rattle.redo_follow.specs.Tallying.{HasTally}
+use Rattle.redo_follow.specs.Following.{HasTally}
 use Rattle.redo_follow.proofs.Tallies.{tally_more}
 use Rattle.redo_follow.proofs.tally.TallyReceiver.group.Goals as goal
 

@@ -1,6 +1,5 @@
 use Rattle.std.proofs.Common.{◌≡◌, ◌*◌, ◌+◌, ◌∙◌, Some, ap, subst, sym, arith}
-use Rattle.model_device.specs.{IsPutOrNot, synced, written}
-use Rattle.model_device.specs.Disk.{Disk}
+use Rattle.model_device.specs.{IsPutOrNot, synced, written, Disk}
 use Rattle.model_log.specs.{checkpoint_text, IsLayout, run_layout}
 use Rattle.model_log.specs.declared.layout.Layout.{Layout}
 use Rattle.model_parts.specs.{after_asked, after_checkpoint, HasNextNumber, MayBeNext, next_number, other_place}

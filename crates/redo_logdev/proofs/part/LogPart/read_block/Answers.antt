@@ -1,6 +1,6 @@
 use Rattle.std.proofs.Common.{◌≡◌, ◌∙◌, List, length, ap, subst, sym, take, drop, arith}
 use Rattle.std.specs.Prelude.{vec_len}
-use Rattle.model_device.specs.Disk.{Disk}
+use Rattle.model_device.specs.{Disk}
 use Rattle.model_log.specs.{IsBoundaryBlock}
 use Rattle.redo_disk.proofs.Told.{known-as}
 use Rattle.redo_logdev.specs.Part.{Part}

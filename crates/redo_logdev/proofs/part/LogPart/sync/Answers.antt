@@ -1,6 +1,5 @@
 use Rattle.std.proofs.Common.{◌≡◌, [], ◌∷◌, Some, None, ap, subst, sym, ◌∙◌}
-use Rattle.model_device.specs.{synced}
-use Rattle.model_device.specs.Disk.{Disk}
+use Rattle.model_device.specs.{synced, Disk}
 use Rattle.model_parts.specs.{after_synced}
 use Rattle.model_parts.specs.declared.marks.TailMarks.{TailMarks}
 use Rattle.redo_logdev.specs.Part.{Part}

@@ -1,6 +1,6 @@
 use Rattle.std.proofs.Common.{◌≡◌, ◌≤◌, ◌<◌, ◌+◌, ◌*◌, ◌%◌, ◌^◌, ℕ, List, length, take, None, Option, Some, ap, subst, sym, ◌∙◌, arith}
 use Rattle.std.proofs.lemmas.List.{take_at}
-use Rattle.model_device.specs.Disk.{Disk}
+use Rattle.model_device.specs.{Disk}
 use Rattle.model_log.specs.{block_of, IsGivenTo, other_tail, run_layout}
 use Rattle.model_log.specs.declared.layout.Layout.{Layout}
 use Rattle.model_parts.specs.{after_given, after_written}
@@ -8,9 +8,8 @@ use Rattle.model_parts.specs.declared.marks.TailMarks.{TailMarks}
 use Rattle.redo_disk.specs.{MakesCalls, Serve}
 use Rattle.redo_disk.specs.declared.error.DevError.{DevError}
 use Rattle.redo_disk.proofs.Told.{told-step}
-use Rattle.redo_logdev.specs.Calls.{block_writes, framed_full_blocks, full_count, last_block}
+use Rattle.redo_logdev.specs.Part.{block_writes, framed_full_blocks, full_count, last_block, Part}
 use Rattle.redo_logdev.specs.Writing.{FailsBlocks, written_blocks}
-use Rattle.redo_logdev.specs.Part.{Part}
 use Rattle.redo_logdev.specs.Holding.{PartHolds, DiskHolds}
 use Rattle.redo_logdev.specs.PartConditions.{MayWrite}
 use Rattle.redo_logdev.proofs.Cuts.{IsCut}

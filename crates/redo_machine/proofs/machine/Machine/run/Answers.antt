@@ -3,7 +3,7 @@ use Rattle.model_running.specs.{HaveEnded}
 use Rattle.redo_drive.proofs.CallsOn.{both_then, none_called}
 use Rattle.redo_machine.proofs.Runs.{InRun, ends_done, ends_spent, goes_on, starts_run}
 use Rattle.redo_machine.specs.OpenUsers.{IsFirstOpen}
-use Rattle.redo_drive.specs.Views.{views_of}
+use Rattle.redo_drive.specs.{views_of}
 use Rattle.redo_drive.specs.declared.actor.Actor.{Actor}
 use Rattle.redo_machine.proofs.machine.Machine.run.Goals as goal
 

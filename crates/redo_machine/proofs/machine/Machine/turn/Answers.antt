@@ -8,15 +8,13 @@ use Rattle.redo_drive.proofs.TurnsOf.{runs_from, runs_on, takes_turn}
 use Rattle.redo_drive.proofs.Viewed.{own_at}
 use Rattle.redo_drive.specs.DataPartSide as data_part
 use Rattle.redo_drive.specs.LogPartSide as log_part
-use Rattle.redo_drive.specs.Playing.{RunOf, run_data_side, run_log_side}
-use Rattle.redo_drive.specs.Running.{RunsWith}
-use Rattle.redo_drive.specs.Views.{views_of}
+use Rattle.redo_drive.specs.{RunOf, run_data_side, run_log_side, RunsWith, views_of}
 use Rattle.redo_drive.specs.declared.actor.Actor.{Actor}
 use Rattle.redo_machine.proofs.Beside.{serves_with}
 use Rattle.redo_machine.proofs.TurnBeside as beside
 use Rattle.redo_machine.proofs.machine.Machine.turn.Given as given
 use Rattle.redo_machine.proofs.machine.Machine.turn.Goals as goal
-use Rattle.redo_machine.specs.Appending.{IsServedWith, MayServeWith}
+use Rattle.redo_machine.specs.Reading.{IsServedWith, MayServeWith}
 
 -- both parts keep the laws by which the running store speaks of them
 its_log_laws : (g : given.Over) (run : RunOf g.row.L.Denot g.row.D.Denot) → LogLaws

@@ -2,7 +2,7 @@
 use Rattle.std.proofs.Common.{◌≡◌, ◌≤◌, ◌<◌, ◌+◌, ◌*◌, length, arith, sym, subst}
 use Rattle.model_base.specs.{user_length}
 use Rattle.model_parts.proofs.Rows.{row_ends}
-use Rattle.redo_open.specs.Gather.{Gathered}
+use Rattle.redo_open.specs.Rewrite.{Gathered}
 use Rattle.redo_open.proofs.batch.Batch.add.Goals as goal
 
 pub unwrap-requires : goal.unwrap-requires

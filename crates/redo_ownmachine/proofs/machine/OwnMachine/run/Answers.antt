@@ -1,5 +1,5 @@
 use Rattle.std.proofs.Common.{List, arith, subst, sym}
-use Rattle.model_own.specs.OwnWrites.{OwnUser}
+use Rattle.model_own.specs.{OwnUser}
 use Rattle.redo_drive.proofs.CallsOn.{both_then, none_called}
 use Rattle.redo_ownmachine.proofs.Runs.{InOwnRun, ends_done, ends_spent, goes_on, no_change, no_changes, some_seat, starts_run}
 use Rattle.redo_ownmachine.proofs.machine.OwnMachine.run.Goals as goal

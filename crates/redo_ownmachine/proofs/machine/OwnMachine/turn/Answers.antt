@@ -1,10 +1,9 @@
 use Rattle.std.proofs.Common.{Bool, ap, arith, set, subst, sym, ◌-◌, ◌∙◌}
 use mathlib.Core.Option.{some}
 use Rattle.model_core.specs.{lent, next}
-use Rattle.redo_drive.specs.Asking.{AskOfBoth}
-use Rattle.redo_drive.specs.Views.{view_of, views_of}
+use Rattle.redo_drive.specs.{AskOfBoth, view_of, views_of}
 use Rattle.redo_drive.specs.declared.actor.Actor.{Actor}
-use Rattle.redo_machine.specs.Appending.{IsServedWith, MayServeWith}
+use Rattle.redo_machine.specs.Reading.{IsServedWith, MayServeWith}
 use Rattle.redo_ownmachine.proofs.Comes as user
 use Rattle.redo_ownmachine.proofs.OtherBeside as other
 use Rattle.redo_ownmachine.proofs.Places.{sits}

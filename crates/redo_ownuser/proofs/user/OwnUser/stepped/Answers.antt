@@ -1,6 +1,6 @@
 use Rattle.std.proofs.Common.{ap, false, sym, ◌∙◌}
 use Rattle.model_core.specs.{heard}
-use Rattle.model_own.specs.OwnWrites.{OwnUser, loads_again}
+use Rattle.model_own.specs.{OwnUser, loads_again}
 use Rattle.redo_ownuser.proofs.Stepped.{stepped_to}
 use Rattle.redo_ownuser.proofs.user.OwnUser.stepped.Goals as goal
 

@@ -1,5 +1,5 @@
 use Rattle.std.proofs.Common.{ap, sym, ◌∙◌}
-use Rattle.model_own.specs.OwnWrites.{OwnUser}
+use Rattle.model_own.specs.{OwnUser}
 use Rattle.redo_ownuser.proofs.StandsStill.{nearer_off}
 use Rattle.redo_ownuser.proofs.user.OwnUser.took.Goals as goal
 

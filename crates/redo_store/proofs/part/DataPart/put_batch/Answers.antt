@@ -1,6 +1,5 @@
 use Rattle.std.proofs.Common.{◌≡◌, IfSome, List, [], None, true, is_some, ap, sym, subst, arith}
-use Rattle.model_device.specs.Disk.{Disk}
-use Rattle.model_device.specs.{IsPutOrNot, synced, written}
+use Rattle.model_device.specs.{Disk, IsPutOrNot, synced, written}
 use Rattle.model_parts.specs.{batch_of, Fresh, IsBatch, IsUpTo, IsWritable, slots_write}
 use Rattle.model_parts.specs.Stored.{Stored}
 use Rattle.redo_disk.proofs.Told.{told-step}

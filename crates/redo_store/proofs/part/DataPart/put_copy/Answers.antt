@@ -1,8 +1,7 @@
 use Rattle.std.proofs.Common.{◌≡◌, ◌<◌, ap, sym, subst, ◌∙◌}
 use Rattle.model_base.specs.declared.shape.Shape.{Shape}
 use Rattle.model_parts.specs.{IsRepaired, KeepsAll}
-use Rattle.model_device.specs.{IsPutOrNot, synced, written}
-use Rattle.model_device.specs.Disk.{Disk}
+use Rattle.model_device.specs.{IsPutOrNot, synced, written, Disk}
 use Rattle.redo_dblwr.proofs.Ranges.{place-range}
 use Rattle.redo_disk.proofs.Told.{OnTold-weaker}
 use Rattle.redo_disk.specs.{OnTold, write_at}

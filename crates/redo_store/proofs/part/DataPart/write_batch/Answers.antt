@@ -1,6 +1,6 @@
 use Rattle.std.proofs.Common.{◌≡◌, IfSome, List, [], None, is_some, ap, sym, subst, arith}
 use Rattle.model_base.specs.declared.shape.Shape.{Shape}
-use Rattle.model_device.specs.Disk.{Disk}
+use Rattle.model_device.specs.{Disk}
 use Rattle.model_parts.specs.{after_batch, after_both, batch_of, FailsBoth, Fresh, IsBatch, IsLater, IsSteady, IsUpTo, IsWritable, Keeps, KeepsPages, place_writes, slots_write}
 use Rattle.model_parts.specs.Stored.{Stored}
 use Rattle.redo_disk.proofs.Told.{told-step}
