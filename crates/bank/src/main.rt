@@ -1,8 +1,7 @@
 //! A bank that keeps its accounts in a store: bank TRANSFERS. It opens the store in the files `bank.log` and `bank.data` of
-//! the current folder, which it makes if they are new, and prints what stands on each account and the sum of all. Then four
-//! tellers make so many transfers, each in a thread of its own. A transfer is printed once its group is flushed: so it is
-//! there after a crash, and none is there by half. There is no rollback, and only the locks of the accounts keep transfers
-//! apart.
+//! the current folder, or makes it there, and prints what stands on each account and the sum of all. Then four tellers make
+//! so many transfers, each in a thread of its own. A transfer is printed once its group is flushed: so it is there after a
+//! crash, and none is there by half. There is no rollback, and only the locks of the accounts keep transfers apart.
 #![tactic(auto)]
 
 ghost use Rattle.std.specs.Prelude.{⊤, ◌≡◌, ◌≢◌, ◌<◌, IfOk, vec_len};
@@ -13,9 +12,8 @@ ghost use Rattle.model_script.specs.{IsInRange};
 ghost use Rattle.redo_apply.specs.{ArePagesOf};
 ghost use Rattle.redo_live.specs.Holding.{IsUserOf};
 ghost use Rattle.redo_live.specs.Serving.{Stays};
-ghost use Rattle.redo_store.specs.{IsRunnable};
 
-use anyhow::{Result, anyhow};
+use anyhow::{Result, ensure};
 use byteorder::{BigEndian, ByteOrder};
 use model_base::{LSN_LIMIT, Shape, USER_START};
 use model_script::{Item, Items};
@@ -24,13 +22,12 @@ use redo_disk::Sectors;
 use redo_live::{Store, User, Work};
 use redo_memdisk::{Access, FileDisk, Unread};
 use redo_open::{format, open_store};
-use redo_recover::{RecFault, log_fault};
 use redo_rule::Left;
 use redo_store::Opened;
 use std::alloc::Global;
-use std::env;
 use std::sync::{Mutex, Wait};
 use std::thread::Threads;
+use std::{env, mem};
 
 /// How many accounts there are: eight on each page.
 const ACCOUNTS: u32 = 64;
@@ -47,8 +44,7 @@ struct Bank<'a, R> {
     rt: &'a R,
     alloc: Global,
     start: u64,
-    // how many transfers all tellers make
-    count: u64,
+    transfers: u64,
     balances: Vec<Mutex<u64>>,
     printing: Mutex<()>,
     ghost all: { vec_len balances ≡ ACCOUNTS },
@@ -90,22 +86,17 @@ impl<'a, R: Wait + Print> Bank<'a, R> {
         ensures { Stays store.now user.old user.new }
     {
         let (from, to, most) = drawn(self.start, number);
-        let mut lower = self.balances[from.min(to) as usize].lock(self.rt);
-        let mut upper = self.balances[from.max(to) as usize].lock(self.rt);
-        let (had, has) = if from < to {
-            (*lower, *upper)
-        } else {
-            (*upper, *lower)
-        };
-        let amount = most.min(had);
-        let (left, grown) = (had - amount, has.wrapping_add(amount));
+        let mut source = self.balances[from.min(to) as usize].lock(self.rt);
+        let mut target = self.balances[from.max(to) as usize].lock(self.rt);
+        if to < from {
+            mem::swap(&mut source, &mut target);
+        }
+        let amount = most.min(*source);
+        let (left, grown) = (*source - amount, target.wrapping_add(amount));
         let items = Items(vec![in self.alloc; put_balance(from, left), put_balance(to, grown)]?);
-        let end = match user.commit(store, self.rt, self.alloc, FLUSHED, items) {
-            Ok(end) => end,
-            Err((refused, _)) => return Err(refused.into()),
-        };
-        *lower = if from < to { left } else { grown };
-        *upper = if from < to { grown } else { left };
+        let answer = user.commit(store, self.rt, self.alloc, FLUSHED, items);
+        let end = answer.map_err(|(refused, _)| refused)?;
+        (*source, *target) = (left, grown);
         let _printing = self.printing.lock(self.rt);
         Ok(println!(self.rt; "transfer {number} from {from} to {to} of {amount} done {end}")?)
     }
@@ -116,7 +107,7 @@ impl<'a, R: Wait + Print + Eprint, D: Sectors> Work<D, D> for Bank<'a, R> {
 
     /// Makes each transfer of a teller, of those that all make, up to the first that fails.
     fn serve(&self, store: &Store<D, D>, teller: usize, user: &mut User<D, D>) {
-        for number in (teller as u64..self.count).step_by(TELLERS) {
+        for number in (teller as u64..self.transfers).step_by(TELLERS) {
             if let Err(error) = self.transfer(store, user, number) {
                 let _ = eprintln!(self.rt; "teller {teller}: {error}");
                 return;
@@ -125,34 +116,24 @@ impl<'a, R: Wait + Print + Eprint, D: Sectors> Work<D, D> for Bank<'a, R> {
     }
 }
 
-/// The store on these devices, recovered and opened, if it is a bank's. Where the blocks of the log's header are zero it is
-/// made first.
+/// The store on these devices, if it is a bank's. Where the blocks of the log's header are zero it is made first.
 fn open<D: Sectors + Drop>(alloc: Global, mut log: D, mut data: D) -> Result<Opened<D, D>>
     ensures { IfOk result IsBank }
 {
+    let sizes = Shape::default_shape();
+    ensure!(1536 <= log.len(), "the log device has no room for a header");
     let mut heads = [0; 1536];
-    if log.len() < 1536 {
-        return Err(RecFault::SmallLog(1536).into());
-    }
-    log.read(0, &mut heads).map_err(|error| log_fault(error))?;
+    log.read(0, &mut heads)?;
     let mut bytes = heads.iter().enumerate();
     if bytes.all(|(i, byte)| *byte == 0 || i / 512 == 1) {
-        format(&mut log, &mut data, &Shape::default_shape())?;
+        format(&mut log, &mut data, &sizes)?;
     }
-    match open_store(alloc, log, data) {
-        Ok(opened) => is_bank(opened),
-        Err((fault, _, _)) => Err(fault.into()),
-    }
-}
-
-/// The opened store, if it is a bank's and its log isn't at its end.
-fn is_bank<D: Sectors + Drop>(opened: Opened<D, D>) -> Result<Opened<D, D>>
-    requires { IsRunnable opened }
-    ensures { IfOk result IsBank }
-{
-    if opened.shape != Shape::default_shape() || LSN_LIMIT <= opened.start {
-        return Err(anyhow!("the files hold another store, or its log is at its end"));
-    }
+    let opened = match open_store(alloc, log, data) {
+        Ok(opened) => opened,
+        Err((fault, _, _)) => return Err(fault.into()),
+    };
+    ensure!(opened.shape == sizes, "the files hold another store");
+    ensure!(opened.start < LSN_LIMIT, "the log is at its end");
     Ok(opened)
 }
 
@@ -174,42 +155,24 @@ fn read_balances<R: Print>(rt: &R, alloc: Global, pages: &Pages) -> Result<Vec<M
     Ok(balances)
 }
 
-/// So many transfers are made in the bank on these devices.
+/// The tellers of the bank make all transfers in its store.
 fn serve_bank<R: Threads + Wait + Print + Eprint + Sync, D: Sectors + Drop + Send + Sync>(
-    rt: &R,
-    alloc: Global,
-    log: D,
-    data: D,
-    count: u64,
-) -> Result<()> {
-    let opened = open(alloc, log, data)?;
-    let start = opened.start;
-    println!(rt; "start {start}")?;
-    let balances = read_balances(rt, alloc, &opened.pages)?;
-    let live = Store::open(rt, alloc, opened, TELLERS as u32, false);
-    let (store, mut users, mut workers) = match live {
-        Ok(live) => live,
-        Err((no_memory, _, _)) => return Err(no_memory.into()),
-    };
-    let bank = Bank {
-        rt,
-        alloc,
-        start,
-        count,
-        balances,
-        printing: Mutex::new(()),
-    };
-    store.serve(rt, &bank, users.as_mut_slice(), workers.as_mut_slice());
+    bank: &Bank<R>,
+    opened: Opened<D, D>,
+) -> Result<()>
+    requires { IsBank opened }
+{
+    let live = Store::open(bank.rt, bank.alloc, opened, TELLERS as u32, false);
+    let (store, mut users, mut workers) = live.map_err(|(no_memory, _, _)| no_memory)?;
+    store.serve(bank.rt, bank, users.as_mut_slice(), workers.as_mut_slice());
     let Left {
         code,
         marks: _,
         log: _,
         store: _,
         work: _,
-    } = store.close(rt, users, workers);
-    if code != 0 {
-        return Err(anyhow!("the store has failed with code {code}"));
-    }
+    } = store.close(bank.rt, users, workers);
+    ensure!(code == 0, "the store has failed with code {code}");
     Ok(())
 }
 
@@ -218,12 +181,20 @@ fn device<'a>(rt: &'a HostRuntime, name: &str) -> Result<FileDisk<&'a HostRuntim
     Ok(FileDisk::new(rt, name.to_string(rt.alloc())?, Access::Writing))
 }
 
+/// Opens the bank, and makes the transfers.
 fn main(rt: HostRuntime) -> Result<()> {
-    let mut words = env::args(&rt)?;
-    let count = match words.nth(1) {
-        Some(word) => word.as_str().parse()?,
-        None => 0,
+    let (rt, alloc) = (&rt, rt.alloc());
+    let mut words = env::args(rt)?;
+    let transfers = words.nth(1).map_or(Ok(0), |word| word.as_str().parse())?;
+    let opened = open(alloc, device(rt, "bank.log")?, device(rt, "bank.data")?)?;
+    println!(rt; "start {}", opened.start)?;
+    let bank = Bank {
+        rt,
+        alloc,
+        start: opened.start,
+        transfers,
+        balances: read_balances(rt, alloc, &opened.pages)?,
+        printing: Mutex::new(()),
     };
-    let (log, data) = (device(&rt, "bank.log")?, device(&rt, "bank.data")?);
-    serve_bank(&rt, rt.alloc(), log, data, count)
+    serve_bank(&bank, opened)
 }

@@ -31,7 +31,7 @@ pub(crate) struct InvalidDisk {
 impl Model for InvalidDisk {
     ghost use Rattle.std.specs.Prelude.{◌≡◌, length, Option};
     ghost use Rattle.std.specs.Option.{option_map};
-    ghost use Rattle.model_device.specs.Disk.{Disk};
+    ghost use Rattle.model_device.specs.Disks.{Disk};
 
     // what it means, and what it meant just before its last crash
     ghost Value = { Disk × Option Disk };

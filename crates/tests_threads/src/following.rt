@@ -1,6 +1,6 @@
 // Followers of runs in threads: each receiver gets just the groups up to its follower's place.
 ghost use Rattle.std.specs.Prelude.{◌<◌, ◌^◌, IfOk};
-ghost use Rattle.redo_drive.specs.Startable.{AreNewFollowers};
+ghost use Rattle.redo_drive.specs.{AreNewFollowers};
 
 use crate::store::{Device, LOG_ALONE, PAGES, Ready, Way, make_ready};
 use crate::text::lines_of;

@@ -2,7 +2,7 @@
 ghost use Rattle.std.specs.Prelude.{IfOk, ℕ, ◌<◌, ◌^◌, ◌≡◌, ◌≤◌};
 ghost use Rattle.model_base.specs.{IsWithinLimits};
 ghost use Rattle.model_log.specs.declared.layout.TheConstants.{BLOCK_HEADER};
-ghost use Rattle.redo_drive.specs.Startable.{AreNewFollowers, MayBegin, room_from};
+ghost use Rattle.redo_drive.specs.{AreNewFollowers, MayBegin, room_from};
 ghost use Rattle.redo_store.specs.{IsRunnable};
 
 use model_base::{BLOCK_SIZE, Shape};

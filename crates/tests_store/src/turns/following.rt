@@ -1,6 +1,6 @@
 // A follower that takes its turns among the others.
 ghost use Rattle.std.specs.Prelude.{◌<◌, ◌^◌, IfOk};
-ghost use Rattle.redo_drive.specs.Startable.{AreNewFollowers};
+ghost use Rattle.redo_drive.specs.{AreNewFollowers};
 
 use super::runs::{NO_TURNS, Run, left_of, play, spelled, take_turns};
 use super::store::{machine_on, opened};

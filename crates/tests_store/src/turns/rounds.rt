@@ -1,6 +1,6 @@
 // Followers of a run that goes round the log three times, so that checkpoints free the log behind them.
 ghost use Rattle.std.specs.Prelude.{◌<◌, ◌^◌, IfOk};
-ghost use Rattle.redo_drive.specs.Startable.{AreNewFollowers};
+ghost use Rattle.redo_drive.specs.{AreNewFollowers};
 
 use super::following::{Listed, empty_list};
 use super::store::{driven_on, opened};

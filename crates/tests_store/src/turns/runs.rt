@@ -1,5 +1,5 @@
 // Runs whose turns are given by hand, and what is told of them after a crash.
-ghost use Rattle.redo_machine.specs.Appending.{IsOnRun};
+ghost use Rattle.redo_machine.specs.Reading.{IsOnRun};
 
 use super::store::{machine_on, no_followers, opened};
 use crate::fixtures::read;

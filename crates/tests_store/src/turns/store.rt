@@ -2,11 +2,11 @@
 ghost use Rattle.std.specs.Prelude.{false, ℕ, ◌<◌, ◌≡◌, ◌≤◌, ◌^◌, IfOk};
 ghost use Rattle.model_base.specs.{IsWithinLimits};
 ghost use Rattle.model_log.specs.declared.layout.TheConstants.{BLOCK_HEADER};
-ghost use Rattle.redo_drive.specs.Startable.{AreNewFollowers, MayBegin, room_from};
+ghost use Rattle.redo_drive.specs.{AreNewFollowers, MayBegin, room_from};
 ghost use Rattle.redo_ownmachine.specs.OwnCrew.{HasRoom};
 ghost use Rattle.redo_ownmachine.specs.OwnStore.{OwnIsOnRun};
 ghost use Rattle.redo_store.specs.{IsRunnable};
-ghost use Rattle.redo_machine.specs.Appending.{IsOnRun};
+ghost use Rattle.redo_machine.specs.Reading.{IsOnRun};
 
 use model_base::{BLOCK_SIZE, Shape};
 use model_log::{BLOCK_HEADER, TAIL_BLOCKS};

@@ -1,6 +1,6 @@
 // Shared stores that were just formatted, each player with its seat.
 ghost use Rattle.std.specs.Prelude.{IfOk, false, ◌≡◌};
-ghost use Rattle.redo_drive.specs.Startable.{MayBegin};
+ghost use Rattle.redo_drive.specs.{MayBegin};
 ghost use Rattle.redo_ownrule.specs.Sharing.{IsFixed, IsUnseated, own_of};
 ghost use Rattle.tests_threads.specs.Playing.{IsPlaying};
 

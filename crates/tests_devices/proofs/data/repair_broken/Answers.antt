@@ -3,7 +3,7 @@ use Rattle.std.proofs.Common.{◌≡◌, ℕ, List, Option, Some, None, IfSome, 
 use Rattle.model_base.specs.declared.shape.Shape.{Shape}
 use Rattle.model_page.specs.{HasNoCopy, IsBestCopy, page_check, place_bytes, place_lsn_by}
 use Rattle.model_page.specs.declared.page.PageState.TheVariants.{Broken}
-use Rattle.model_device.specs.Disk.{Disk}
+use Rattle.model_device.specs.{Disk}
 use Rattle.model_parts.specs.{IsRepairable}
 use Rattle.redo_disk.proofs.Told.{still-known}
 use Rattle.tests_devices.proofs.data.repair_broken.Goals as goal

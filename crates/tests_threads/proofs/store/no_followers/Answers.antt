@@ -1,6 +1,6 @@
 use Rattle.std.proofs.Common.{arith, subst, sym}
 use mathlib.Core.Option.{some-ne-none}
-use Rattle.redo_drive.specs.Startable.{AreNewFollowers}
+use Rattle.redo_drive.specs.{AreNewFollowers}
 use Rattle.tests_threads.proofs.store.no_followers.Goals as goal
 
 pub returns : goal.returns

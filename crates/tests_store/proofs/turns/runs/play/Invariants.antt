@@ -1,5 +1,5 @@
 -- The machine stays on its run.
-use Rattle.redo_machine.specs.Appending.{IsOnRun}
+use Rattle.redo_machine.specs.Reading.{IsOnRun}
 use Rattle.tests_store.proofs.turns.runs.play.Given as goal
 
 abbrev pub invariant-loop-word : goal.invariant-loop-word

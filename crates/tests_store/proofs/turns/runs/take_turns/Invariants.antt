@@ -1,5 +1,5 @@
 -- The machine stays on its run.
-use Rattle.redo_machine.specs.Appending.{IsOnRun}
+use Rattle.redo_machine.specs.Reading.{IsOnRun}
 use Rattle.tests_store.proofs.turns.runs.take_turns.Given as goal
 
 abbrev pub invariant-loop-turn : goal.invariant-loop-turn

@@ -1,5 +1,5 @@
 use Rattle.std.proofs.Common.{Bool, List, ap, false, length, subst, sym, ◌+◌, ◌∙◌, ◌≡◌}
-use Rattle.redo_follow.specs.Tallying.{Kept}
+use Rattle.redo_follow.specs.{Kept}
 use Rattle.redo_ownrule.specs.Players.{AreInOrder, workers}
 use Rattle.redo_ownrule.specs.Sharing.{AreSeatsOf, own_of, table_of}
 use Rattle.redo_ownrule.specs.declared.player.Player.{Player}

@@ -1,6 +1,6 @@
 use Rattle.std.proofs.Common.{Bool, List, None, ap, map, refl, subst, sym, ◌+◌, ◌∙◌}
-use Rattle.redo_drive.specs.Views.{views_of}
-use Rattle.redo_follow.specs.Tallying.{Kept}
+use Rattle.redo_drive.specs.{views_of}
+use Rattle.redo_follow.specs.{Kept}
 use Rattle.redo_ownrule.specs.Players.{actor_of, AreInOrder, workers}
 use Rattle.redo_ownrule.specs.Sharing.{AllAtRest, AreSeatsOf, own_of, table_of}
 use Rattle.redo_ownrule.specs.declared.player.Player.{Player}

@@ -1,6 +1,6 @@
 use Rattle.std.proofs.Common.{ap, arith, rules, sym, ◌∙◌}
 use mathlib.Core.Option.{some}
-use Rattle.redo_follow.specs.Tallying.{Kept}
+use Rattle.redo_follow.specs.{Kept}
 use Rattle.redo_ownrule.specs.declared.player.Player.{Player}
 use Rattle.redo_rule.proofs.Gathered.{at_or}
 use Rattle.tests_threads.proofs.Turned.{all_below, none_below, one_more}

@@ -1,0 +1,5 @@
+use Rattle.redo_live.specs.Serving.{Stays}
+use Rattle.tests_live.proofs.refusals.FillingWorkDeviceDevice.serve.Given as goal
+
+abbrev pub invariant-loop : goal.invariant-loop
+invariant-loop g l = Stays l.store l.initial.user l.user
