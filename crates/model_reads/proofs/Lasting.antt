@@ -5,19 +5,22 @@ use Rattle.std.specs.Prelude.{IfSome, None, Option, Some, nat_le, slice_index, t
 use lib.ListN.{get_elem?}
 use mathlib.Core.Option as maybe
 use Rattle.model_core.proofs.Lsns.{lsn_le}
-use Rattle.model_core.specs.{Entry, sn_at, Setup}
+use Rattle.model_core.specs.{Entry, failed_at, sn_at, Setup}
 use Rattle.model_page.specs.{user_part}
 use Rattle.model_pagecore.proofs.PageHistory.{last_some, whole_none}
 use Rattle.model_pagecore.specs.{applied_all, applied_upto, cells_on, end_lsn, is_changed_page, write_cells}
 use Rattle.model_pagecore.specs.Pages.{last_end}
-use Rattle.model_reads.specs.Reading.{AreRead, GlanceFits, HasWords, IsRead, newest_in, top_in}
+use Rattle.model_reads.specs.Reading.{AreRead, GlanceFits, ReadEndFits, HasWords, IsRead, newest_in, top_in}
 use Rattle.model_reads.specs.declared.read.Glance.{Glance}
 use Rattle.model_reads.specs.declared.read.PageRead.{PageRead}
+use Rattle.model_reads.specs.declared.read.ReadEnd.{ReadEnd}
+use Rattle.model_reads.specs.declared.read.ReadEnd.TheVariants.{Failed, Page}
 
--- THE RUN HAS GONE ON: SN and each NEWEST are no less, and what the log has more ends above where it ended.
+-- THE RUN HAS GONE ON: SN and each NEWEST are no less, FAILED isn't 0 again, and what the log has more ends above where it ended.
 pub record HasGoneOn (c : Setup) (ws ws' : List ℕ) (log log' : List Entry) : Type 0 where
   pub more_sn : slice_index ws sn_at ≤ slice_index ws' sn_at
   pub rises : (q : ℕ) → q < c.pages → newest_in c ws q ≤ newest_in c ws' q
+  pub fails : 0 < slice_index ws failed_at → 0 < slice_index ws' failed_at
   pub rest : List Entry
   pub grown : log' ≡ log ++ rest
   pub late : (i : ℕ) (e : Entry) → get_elem? rest i ≡ maybe.some e → top_in ws < end_lsn e
@@ -98,9 +101,13 @@ module _ (c : Setup) (ws ws' : List ℕ) (log log' : List Entry) (on : HasGoneOn
         (λ less. inr (omega arith)) (o.free seen);
   }
 
-  pub reads_last : (reads : List PageRead) → AreRead c ws log reads → AreRead c ws' log' reads
+  end_lasts : (r : ReadEnd) → ReadEndFits c ws log r → ReadEndFits c ws' log' r
+  end_lasts (Page r) o = read_lasts r o
+  end_lasts (Failed code) o = (o.0, on.fails o.1)
+
+  pub reads_last : (reads : List ReadEnd) → AreRead c ws log reads → AreRead c ws' log' reads
   reads_last [] all = tt
-  reads_last (r ∷ rs) all = (read_lasts r all.0, reads_last rs all.1)
+  reads_last (r ∷ rs) all = (end_lasts r all.0, reads_last rs all.1)
 
   pub glance_if : (g : Option Glance) → IfSome g (GlanceFits c ws log) → IfSome g (GlanceFits c ws' log')
   glance_if None fits = tt

@@ -25,6 +25,7 @@ use Rattle.model_reads.specs.Reading.{newest_in}
 use Rattle.model_running.proofs.BothKeep.{BothLeft, keeps_both}
 use Rattle.model_running.proofs.EachTurn.{actors_filled, both_filled, filled_at, log_then, served_filled, who_filled}
 use Rattle.model_running.proofs.Filling.{is_filled, next_filled}
+use Rattle.model_running.proofs.FailedStays.{turn_keeps_failed}
 use Rattle.model_running.proofs.FlatWords.{flat_left, flat_read}
 use Rattle.model_running.proofs.ReadKeeps.{LogGrows}
 use Rattle.model_running.proofs.Turns.{next_words}
@@ -169,6 +170,7 @@ module _ (D : LogSide) (L : LogLaws D) (E : DataSide) (EL : DataLaws E) (c : Set
   turn_goes_on = record {
     more_sn = more_sn;
     rises = rises;
+    fails = turn_keeps_failed D E c old new seat answer step before t;
     rest = added.0;
     grown = added.1;
     late = λ i e is. subst (λ (n : ℕ). lsn n < end_lsn e) sn_was (added.2 i e is);

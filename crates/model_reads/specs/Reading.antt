@@ -1,7 +1,7 @@
 -- What holds of a page that is being read, and of one that was, between any two turns. Marks are lsns.
 use Rattle.std.specs.Prelude.{List, length, slice_index, take, true, ℕ, ◌*◌, ◌<◌, ◌≡◌, ◌≤◌, ◌⊎◌}
 use Rattle.std.specs.List.{AllByRecursion}
-use Rattle.model_core.specs.{Entry, index, layout_of, lsn, sn_at, frame_bytes, Setup}
+use Rattle.model_core.specs.{Entry, failed_at, index, layout_of, lsn, sn_at, frame_bytes, Setup}
 use Rattle.model_core.specs.declared.limits.TheConstants.{WORD_LANES}
 use Rattle.model_core.specs.declared.words.Word.TheVariants as word
 use Rattle.model_page.specs.{user_part}
@@ -9,6 +9,8 @@ use Rattle.model_pagecore.specs.{applied_all, applied_upto}
 use Rattle.model_pagecore.specs.Pages.{last_end}
 use Rattle.model_reads.specs.declared.read.Glance.{Glance}
 use Rattle.model_reads.specs.declared.read.PageRead.{PageRead}
+use Rattle.model_reads.specs.declared.read.ReadEnd.{ReadEnd}
+use Rattle.model_reads.specs.declared.read.ReadEnd.TheVariants.{Failed, Page}
 
 -- NEWEST of a page in the list of words, and where the log ends
 abbrev pub newest_in : Setup → List ℕ → ℕ → ℕ
@@ -41,5 +43,10 @@ module _ (c : Setup) (ws : List ℕ) (log : List Entry) where
     pub upto : r.lsn ≤ top_in ws
     pub bytes : r.bytes ≡ user_part (take c.page_size (applied_upto r.page r.lsn log (c.opened r.page).bytes))
 
-  abbrev pub AreRead : List PageRead → Type 0
-  AreRead reads = AllByRecursion IsRead reads
+  -- A READ CAME TO THAT: a page that was read, or a code other than 0, since when FAILED hasn't been 0.
+  abbrev pub ReadEndFits : ReadEnd → Type 0
+  ReadEndFits (Page r) = IsRead r
+  ReadEndFits (Failed code) = (0 < code) × (0 < slice_index ws failed_at)
+
+  abbrev pub AreRead : List ReadEnd → Type 0
+  AreRead reads = AllByRecursion ReadEndFits reads

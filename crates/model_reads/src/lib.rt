@@ -4,4 +4,4 @@
 
 mod read;
 
-pub use read::{Glance, PageRead};
+pub use read::{Glance, PageRead, ReadEnd};

@@ -1,4 +1,4 @@
-// A page that is read, and one that was. No value of either is made.
+// A page that is read, and what a read came to. No value of these is made.
 use std::collections::LinkedList;
 
 /// A page that is being read: its number, NEWEST as it was loaded first, the words of its frame that were loaded since, and the
@@ -18,4 +18,11 @@ pub struct PageRead {
     pub page: u64,
     pub lsn: u64,
     pub bytes: LinkedList<u8>,
+}
+
+/// What a read came to: a page that was read, or a code with which the run had failed.
+#[derive(Drop)]
+pub enum ReadEnd {
+    Page(PageRead),
+    Failed(u64),
 }

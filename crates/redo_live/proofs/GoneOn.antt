@@ -1,7 +1,7 @@
 -- A user goes on through its commits and its reads.
 use Rattle.std.proofs.Common.{List, [], ap, append-nil, append_assoc, arith, refl, subst, sym, ℕ, ◌++◌, ◌∙◌, ◌≡◌}
 use Rattle.model_core.specs.{Line}
-use Rattle.model_reads.specs.declared.read.PageRead.{PageRead}
+use Rattle.model_reads.specs.declared.read.ReadEnd.{ReadEnd}
 use Rattle.model_script.specs.declared.item.Item.{Item}
 use Rattle.redo_live.specs.Committing.{IsRefusedSo}
 use Rattle.redo_live.specs.Holding.{reads_of, state_of}
@@ -13,8 +13,8 @@ use Rattle.redo_live.specs.declared.store.Store.{Store}
 use Rattle.redo_live.specs.declared.user.User.{User}
 
 module _ {L D : Type 0} where
-  -- who is as it was but for more pages that it has read
-  pub goes_by : (old new : User L D) (more : List PageRead) → state_of new ≡ state_of old
+  -- who is as it was but for more reads
+  pub goes_by : (old new : User L D) (more : List ReadEnd) → state_of new ≡ state_of old
       → reads_of new ≡ reads_of old ++ more → HasGoneOn old new
   goes_by old new more same reads = record {
     number = ap (λ s. s.user) same;
@@ -43,7 +43,7 @@ module _ {L D : Type 0} where
     answered = (let a = first.answered in let b = then.answered in omega arith);
     reads = (
       first.reads.0 ++ then.reads.0,
-      then.reads.1 ∙ ap (λ (l : List PageRead). l ++ then.reads.0) first.reads.1
+      then.reads.1 ∙ ap (λ (l : List ReadEnd). l ++ then.reads.0) first.reads.1
           ∙ append_assoc (reads_of old) first.reads.0 then.reads.0,
     );
   }
@@ -64,8 +64,8 @@ module _ {L D : Type 0} where
   -- or whose page wasn't read
   pub unread_goes : (store : Store L D) (old new : User L D) (refused : Refused) → IsUnreadFor store old refused new
       → HasGoneOn old new
-  unread_goes store old new (Device code) so = so.1.goes_on
-  unread_goes store old new LogOnly so = so.1.goes_on
+  unread_goes store old new (Device code) so = so.2.goes_on
+  unread_goes store old new LogOnly so = stays old new so.1
   unread_goes store old new (Unfit misfit) so = absurd so
   unread_goes store old new Full so = absurd so
   unread_goes store old new NoMemory so = absurd so

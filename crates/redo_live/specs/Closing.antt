@@ -5,7 +5,7 @@ use mathlib.Core.Option.{some}
 use Rattle.atomic_table.specs.declared.shared.Seat.{Seat}
 use Rattle.model_core.specs.{UserState}
 use Rattle.model_core.specs.States as model
-use Rattle.model_reads.specs.declared.read.PageRead.{PageRead}
+use Rattle.model_reads.specs.declared.read.ReadEnd.{ReadEnd}
 use Rattle.redo_disk.specs.{Call}
 use Rattle.redo_disk.specs.Sight.{Seen}
 use Rattle.redo_follow.specs.declared.tally.Tally.{Tally}
@@ -66,8 +66,8 @@ module _ {L D : Type 0} where
     pub of_users : (i : ℕ) (user : User L D) → get_elem? users i ≡ some user
         → get_elem? actors (number_of user.seat.me.0) ≡ some (model.User (state_of user))
     pub no_other : (n : ℕ) (u : UserState) → get_elem? actors n ≡ some (model.User u) → n < user_count store.shared
-    pub reads : ℕ → List PageRead
+    pub reads : ℕ → List ReadEnd
     pub of_reads : (i : ℕ) (user : User L D) → get_elem? users i ≡ some user
-        → ◌≡◌ {A = List PageRead} (reads (number_of user.seat.me.0)) (reads_of user)
+        → ◌≡◌ {A = List ReadEnd} (reads (number_of user.seat.me.0)) (reads_of user)
     pub leaves : LeavesLive log_seen log_gives data_seen data_gives (opened_of store.shared) store.log_only actors reads
         left

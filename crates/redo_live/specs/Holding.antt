@@ -7,7 +7,7 @@ use Rattle.model_base.specs.declared.shape.Shape.{Shape}
 use Rattle.model_core.specs.{new_user, UserState}
 use Rattle.model_core.specs.declared.words.Layout.{Layout}
 use Rattle.model_logcore.specs.{lengths}
-use Rattle.model_reads.specs.declared.read.PageRead.{PageRead}
+use Rattle.model_reads.specs.declared.read.ReadEnd.{ReadEnd}
 use Rattle.model_running.specs.Schedule.{HasEnded}
 use Rattle.model_script.specs.{IsScriptLine}
 use Rattle.model_script.specs.declared.item.Item.{Item}
@@ -40,8 +40,8 @@ module _ {L D : Type 0} where
   abbrev pub state_of : User L D → UserState
   state_of user = state_in user.player
 
-  -- the pages that it has read
-  abbrev pub reads_of : User L D → List PageRead
+  -- what its reads came to
+  abbrev pub reads_of : User L D → List ReadEnd
   reads_of user = (heard_of user.seat.me.0).reads
 
   -- a line of the user, of this mode and these operations

@@ -2,7 +2,8 @@
 use Rattle.std.specs.Prelude.{List, [], false, length, slice_index, true, ℕ, ◌++◌, ◌+◌, ◌<◌, ◌∷◌, ◌≡◌, ◌≢◌, ◌≤◌}
 use Rattle.model_base.specs.{user_length}
 use Rattle.model_core.specs.{line_at, lsn, UserState}
-use Rattle.model_reads.specs.declared.read.PageRead.{PageRead}
+use Rattle.model_reads.specs.declared.read.ReadEnd.{ReadEnd}
+use Rattle.model_reads.specs.declared.read.ReadEnd.TheVariants as read_end
 use Rattle.redo_live.specs.Holding.{reads_of, shape_of, state_of}
 use Rattle.redo_live.specs.Later.{HasGoneOn}
 use Rattle.redo_live.specs.declared.refused.Refused.{Refused}
@@ -20,24 +21,23 @@ module _ {L D : Type 0} where
     pub there : number < (shape_of store).pages
     pub long : length bytes ≡ user_length (shape_of store)
 
+  -- A READ OF THE USER CAME TO THIS. Else the user is as it was.
+  pub record HasReadSo (old : User L D) (came : ReadEnd) (new : User L D) : Type 0 where
+    pub same : state_of new ≡ state_of old
+    pub reads : reads_of new ≡ reads_of old ++ came ∷ []
+    pub goes_on : HasGoneOn old new
+
   -- THE PAGE WAS READ: the user has it with these user bytes as of this lsn, which is at or above the end of each of its
-  -- groups. Else it is as it was.
+  -- groups.
   pub record HasReadPage (store : Store L D) (old : User L D) (number as_of : ℕ) (bytes : List ℕ) (new : User L D)
       : Type 0 where
     pub with_pages : store.log_only ≡ false
-    pub same : state_of new ≡ state_of old
-    pub reads : reads_of new ≡ reads_of old ++ (record { page = number; lsn = as_of; bytes = bytes }) ∷ []
+    pub read : HasReadSo old (read_end.Page (record { page = number; lsn = as_of; bytes = bytes })) new
     pub own : (k : ℕ) → k < length (state_of old).starts → end_of (state_of old) k ≤ as_of
-    pub goes_on : HasGoneOn old new
 
-  -- the user is as it was, and has read no more
-  pub record HasReadNothing (old new : User L D) : Type 0 where
-    pub same : state_of new ≡ state_of old
-    pub reads : reads_of new ≡ reads_of old
-    pub goes_on : HasGoneOn old new
-
-  -- WHY NOTHING IS READ: the log runs alone, or the run has failed.
+  -- WHY NO PAGE IS READ: the log runs alone, or the run has failed, as the read has met.
   abbrev pub IsUnreadFor : Store L D → User L D → Refused → User L D → Type 0
-  IsUnreadFor store old LogOnly new = (store.log_only ≡ true) × HasReadNothing old new
-  IsUnreadFor store old (Device code) new = (code ≢ 0) × HasReadNothing old new
+  IsUnreadFor store old LogOnly new = (store.log_only ≡ true) × (new ≡ old)
+  IsUnreadFor store old (Device code) new =
+      (store.log_only ≡ false) × (code ≢ 0) × HasReadSo old (read_end.Failed code) new
   IsUnreadFor store old _ new = ⊥

@@ -1,5 +1,5 @@
 // What a user's commits and reads come to. Each law is the contract of a function that does nothing.
-ghost use Rattle.std.specs.Prelude.{List, Some, length, ℕ, ◌≡◌, ◌≤◌};
+ghost use Rattle.std.specs.Prelude.{List, Some, length, ℕ, ◌≡◌, ◌≢◌, ◌≤◌};
 ghost use lib.ListN.{get_elem?};
 ghost use mathlib.Core.Option.{some};
 ghost use Rattle.model_reads.specs.{IsPageAsOf};
@@ -17,6 +17,7 @@ ghost use Rattle.redo_live.specs.Kept.{IsKeptCommit, IsReadCommit};
 ghost use Rattle.redo_live.specs.Later.{HasGoneOn};
 ghost use Rattle.redo_live.specs.Reading.{HasReadPage, IsUnreadFor};
 ghost use Rattle.redo_live.specs.declared.refused.Refused.{Refused};
+ghost use Rattle.redo_live.specs.declared.refused.Refused.TheVariants.{Device};
 ghost use Rattle.redo_live.specs.declared.store.Store.{Store};
 ghost use Rattle.redo_live.specs.declared.user.User.{User};
 ghost use Rattle.redo_ownrule.specs.LiveLeaving.{closed_with};
@@ -48,7 +49,8 @@ pub fn commit_is_kept<L: Sectors, D: Sectors>()
 {}
 
 /// A page that was read is kept: what was answered is that page of the history that the store leaves, as of the lsn that was
-/// answered, however the user went on from there. No commit that the user was answered before ends above that lsn.
+/// answered, however the user went on from there. No commit that the user was answered before ends above that lsn. Where a
+/// read was refused by a failure, the store leaves a code.
 pub fn page_is_kept<L: Sectors, D: Sectors>()
     ensures kept { (store : Store L D) (users : List (User L D)) (left : Left L D) (old new last : User L D)
         (i number as_of : ℕ) (bytes : List ℕ) → HasReadPage store old number as_of bytes new → HasGoneOn new last
@@ -56,6 +58,9 @@ pub fn page_is_kept<L: Sectors, D: Sectors>()
         → IsPageAsOf (opened_of store.shared).pages
         (wholes_of leaves.leaves.script (shape_of store).space leaves.leaves.history)
         (record { page = number; lsn = as_of; bytes = bytes }) }
+    ensures failed { (store : Store L D) (users : List (User L D)) (left : Left L D) (old new last : User L D) (i code : ℕ)
+        → IsUnreadFor store old (Device code) new → HasGoneOn new last → get_elem? users i ≡ some last
+        → LeavesStore L.seen L.gives D.seen D.gives store users left → left.code ≢ 0 }
     ensures own { (store : Store L D) (old new reader last : User L D) (mode end number as_of : ℕ) (items : List Item)
         (bytes : List ℕ) → HasCommitted store old mode items new end → HasGoneOn new reader
         → HasReadPage store reader number as_of bytes last → end ≤ as_of }

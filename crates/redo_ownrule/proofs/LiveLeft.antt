@@ -11,8 +11,9 @@ use Rattle.model_core.specs.{entry, Line, line_at, line_of, UserState}
 use Rattle.model_core.specs.States as model
 use Rattle.model_logcore.specs.{UserFits}
 use Rattle.model_reads.proofs.Folds.{read_as_of}
-use Rattle.model_reads.specs.{AreRead, IsPageAsOf}
-use Rattle.model_reads.specs.declared.read.PageRead.{PageRead}
+use Rattle.model_reads.specs.{AreRead, ReadEndFits, IsReadEndOf}
+use Rattle.model_reads.specs.declared.read.ReadEnd.{ReadEnd}
+use Rattle.model_reads.specs.declared.read.ReadEnd.TheVariants.{Failed, Page}
 use Rattle.model_report.specs.{entries_of_user, lines_of_user, wholes_of}
 use Rattle.model_report.specs.declared.entry.Entry.{Entry}
 use Rattle.model_report.specs.declared.entry.Marks.{Marks}
@@ -156,20 +157,23 @@ module _ {L D R : Type 0} (log_seen : L → Seen) (log_gives : L → Call → L 
   abbrev opened : Opened
   opened = record { shape = about.opened.value.shape; pages = about.opened.value.pages; end = 0 }
 
-  abbrev IsAsOf : PageRead → Type 0
-  IsAsOf = IsPageAsOf about.opened.value.pages (wholes_of script about.opened.value.shape.space history)
+  abbrev IsOf : ReadEnd → Type 0
+  IsOf = IsReadEndOf about.opened.value.pages (wholes_of script about.opened.value.shape.space history) left.code
 
-  -- WHAT WAS READ IS THE PAGE AS OF ITS LSN
-  all_as_of : about.plan.log_only ≡ false → (rs : List PageRead)
-      → AreRead P.run.setup P.last.words.words P.runs.running.log_ghost.log rs → AllByRecursion IsAsOf rs
-  all_as_of with_pages [] all = tt
-  all_as_of with_pages (r ∷ rs) all = let W = P.runs.running in (
-    read_as_of (run_log_side log_seen data_seen P.run) (run_data_side log_seen data_seen P.run) P.run.setup
-        W.shared W.log_ghost W.page_ghost (lists_of P.last.lists) P.last.log P.last.store (views_of actors) W.both script
-        opened (subst IsWithinLimits is_run.shape P.runs.limits) room.fits is_run.its_pages is_run.of_script
-        (is_run.log_only_is ∙ with_pages) P.last.words.words r all.0,
-    all_as_of with_pages rs all.1,
-  )
+  -- A PAGE THAT WAS READ is the page as of its lsn, and where a read has met a failure the run leaves a code
+  is_of : about.plan.log_only ≡ false → (r : ReadEnd)
+      → ReadEndFits P.run.setup P.last.words.words P.runs.running.log_ghost.log r → IsOf r
+  is_of with_pages (Page r) o = let W = P.runs.running in
+      read_as_of (run_log_side log_seen data_seen P.run) (run_data_side log_seen data_seen P.run) P.run.setup
+      W.shared W.log_ghost W.page_ghost (lists_of P.last.lists) P.last.log P.last.store (views_of actors) W.both script
+      opened (subst IsWithinLimits is_run.shape P.runs.limits) room.fits is_run.its_pages is_run.of_script
+      (is_run.log_only_is ∙ with_pages) P.last.words.words r o
+  is_of with_pages (Failed code) o = (o.0, subst (λ (n : ℕ). 0 < n) (sym P.code) o.1)
+
+  all_of : about.plan.log_only ≡ false → (rs : List ReadEnd)
+      → AreRead P.run.setup P.last.words.words P.runs.running.log_ghost.log rs → AllByRecursion IsOf rs
+  all_of with_pages [] all = tt
+  all_of with_pages (r ∷ rs) all = (is_of with_pages r all.0, all_of with_pages rs all.1)
 
   -- WHAT IT LEAVES
   pub leaves_live : LeavesLive log_seen log_gives data_seen data_gives about.opened.value about.plan.log_only
@@ -184,7 +188,7 @@ module _ {L D R : Type 0} (log_seen : L → Seen) (log_gives : L → Call → L 
     history = history;
     of_groups = groups;
     is_kept = λ seat u at k below answered. kept_group left.marks u history (groups seat u at) k below answered;
-    are_read = λ with_pages n. all_as_of with_pages (heard n).reads (P.reads n).done;
+    are_read = λ with_pages n. all_of with_pages (heard n).reads (P.reads n).done;
     is_run = left_run.is_run log_seen log_gives data_seen data_gives (λ r l. Unit {0}) about.opened.value script
         about.plan actors actors (done_with (closed_with left history)) leaves_closed;
     owed = owes_as log_seen log_gives data_seen data_gives about heard actors left P (closed_with left history)

@@ -1,5 +1,5 @@
 -- A turn of a user that writes for itself leaves what was read of pages.
-use Rattle.std.proofs.Common.{Bool, List, ap, arith, cond, eqb, false, length-set, refl, set, subst, sym, true, ℕ}
+use Rattle.std.proofs.Common.{Bool, List, ap, arith, cond, eqb, false, inl, length-set, refl, set, subst, sym, true, ℕ}
 use Rattle.std.proofs.Common.{◌%◌, ◌+◌, ◌<◌, ◌∙◌, ◌≡◌, ◌≤◌}
 use Rattle.std.specs.Prelude.{slice_index, slice_set}
 use lib.ListN.{get_elem?}
@@ -30,9 +30,11 @@ use Rattle.redo_disk.specs.Sight.{Seen}
 use Rattle.redo_drive.specs.Lists.{lists_of}
 use Rattle.redo_drive.specs.Running.{run_data_side, run_log_side, RunOf}
 use Rattle.redo_drive.specs.declared.parts.Parts.{Parts}
+use Rattle.redo_ownmachine.proofs.Failing.{own_turn_keeps_failed}
 use Rattle.redo_ownmachine.proofs.Serves.{goes_on}
+use Rattle.redo_ownmachine.proofs.Turned as turned
 use Rattle.redo_ownmachine.specs.OwnSeats.{actors_of, OwnSeats}
-use Rattle.redo_ownmachine.specs.OwnStore.{OwnRunsWith}
+use Rattle.redo_ownmachine.specs.OwnStore.{own_core_of, OwnRunsWith}
 use Rattle.redo_ownmachine.specs.Serving.{IsUserServed}
 use Rattle.redo_ownrule.proofs.OwnLoading.{log_longer}
 use Rattle.redo_ownuser.specs.OwnFits.{WorkGoesOn}
@@ -90,6 +92,9 @@ module _ {L D : Type 0} {archive : Bool} (log_seen : L → Seen) (data_seen : D 
 
     abbrev seats : OwnSeats
     seats = record { users = users; work = work; others = os }
+
+    abbrev left_seats : OwnSeats
+    left_seats = record { users = set users seat then; work = left; others = os }
 
     abbrev m : SharedWords
     m = before.runs.running.shared
@@ -165,6 +170,10 @@ module _ {L D : Type 0} {archive : Bool} (log_seen : L → Seen) (data_seen : D 
         record {
           more_sn = (let up = tiles_le longer.0 W.shared.sn V.shared.sn longer.2 in omega arith);
           rises = newest_up;
+          fails = λ failed. own_turn_keeps_failed A B run.setup (own_core_of log_seen data_seen run old seats)
+              (own_core_of log_seen data_seen run new left_seats) seat served.answer step
+              (record { running = W; errands = before.errands }) failed
+              (inl (turned.user_turn log_seen data_seen run old new users work left os seat who then step at served));
           rest = longer.0;
           grown = longer.1;
           late = λ i e there.

@@ -6,7 +6,7 @@ use Rattle.atomic_table.specs.Seated.{TableId}
 use Rattle.atomic_table.specs.declared.shared.Seat.{Seat}
 use Rattle.model_core.specs.{UserState}
 use Rattle.model_core.specs.States as model
-use Rattle.model_reads.specs.declared.read.PageRead.{PageRead}
+use Rattle.model_reads.specs.declared.read.ReadEnd.{ReadEnd}
 use Rattle.redo_disk.specs.{Call}
 use Rattle.redo_disk.specs.Sight.{Seen}
 use Rattle.redo_drive.specs.History.{view_of}
@@ -45,7 +45,7 @@ HaveAllFrom {L} {D} first count seats = (n : ℕ) → first ≤ n → n < count
     → (i : ℕ) × (seat : Seat (Slot L D) (View L D)) × (get_elem? seats i ≡ some seat) × (number_of seat.me.0 ≡ n)
 
 -- WHAT A LIVE RUN LEAVES OF THOSE WHO ARE GIVEN BACK: what it leaves of some actors, among which each of these players stands at
--- the number of its seat, and has read what its seat has heard. Only those before this number are users, of whom one that isn't
+-- the number of its seat, and its reads came to what its seat has heard. Only those before this number are users, of whom one that isn't
 -- given back is in whatever state.
 pub record LeavesGiven {L D R : Type 0} (log_seen : L → Seen) (log_gives : L → Call → L → Type 0) (data_seen : D → Seen)
     (data_gives : D → Call → D → Type 0) (opened : Opened L D) (log_only : Bool) (users : ℕ)
@@ -53,8 +53,8 @@ pub record LeavesGiven {L D R : Type 0} (log_seen : L → Seen) (log_gives : L �
   pub actors : List model.Actor
   pub given : (i : ℕ) (seat : Seat (Slot L D) (View L D)) (p : Player R) → get_elem? seats i ≡ some seat
       → get_elem? players i ≡ some p → get_elem? actors (number_of seat.me.0) ≡ some (view_of (actor_of p))
-  pub reads : ℕ → List PageRead
+  pub reads : ℕ → List ReadEnd
   pub of_reads : (i : ℕ) (seat : Seat (Slot L D) (View L D)) → get_elem? seats i ≡ some seat
-      → ◌≡◌ {A = List PageRead} (reads (number_of seat.me.0)) (heard_of seat.me.0).reads
+      → ◌≡◌ {A = List ReadEnd} (reads (number_of seat.me.0)) (heard_of seat.me.0).reads
   pub no_other : (n : ℕ) (u : UserState) → get_elem? actors n ≡ some (model.User u) → n < users
   pub leaves : LeavesLive log_seen log_gives data_seen data_gives opened log_only actors reads left

@@ -6,8 +6,8 @@ use mathlib.Core.Option.{some}
 use Rattle.model_core.specs.{lsn, UserState}
 use Rattle.model_core.specs.States as model
 use Rattle.model_log.specs.{start_after}
-use Rattle.model_reads.specs.{IsPageAsOf}
-use Rattle.model_reads.specs.declared.read.PageRead.{PageRead}
+use Rattle.model_reads.specs.{IsReadEndOf}
+use Rattle.model_reads.specs.declared.read.ReadEnd.{ReadEnd}
 use Rattle.model_report.specs.{entries_of_user, wholes_of}
 use Rattle.model_report.specs.declared.entry.Entry.{Entry}
 use Rattle.model_report.specs.declared.entry.State.TheVariants.{Lost}
@@ -45,11 +45,11 @@ pub record IsKept (history : List Entry) (u : UserState) (k : ℕ) : Type 0 wher
   pub start : entry.start ≡ lsn (slice_index u.starts k)
   pub kept : entry.state ≢ Lost
 
--- WHAT A LIVE RUN LEAVES, whose actors have read these pages, by their numbers: of some script, made of just what its users were
+-- WHAT A LIVE RUN LEAVES, in which the actors' reads came to this, by their numbers: of some script, made of just what its users were
 -- handed in, each line of which fits the store, it is a run with some history, which both devices hold.
 pub record LeavesLive {L D : Type 0} (log_seen : L → Seen) (log_gives : L → Call → L → Type 0) (data_seen : D → Seen)
     (data_gives : D → Call → D → Type 0) (opened : Opened L D) (log_only : Bool) (actors : List model.Actor)
-    (reads : ℕ → List PageRead) (left : Left L D) : Type 0 where
+    (reads : ℕ → List ReadEnd) (left : Left L D) : Type 0 where
   pub script : List ScriptLine
   pub lines : AllByRecursion IsScriptLine script
   pub fits : AllByRecursion (LineFits opened.shape) script
@@ -63,9 +63,9 @@ pub record LeavesLive {L D : Type 0} (log_seen : L → Seen) (log_gives : L → 
       → entries_of_user u.user history ≡ listed left.marks (model.User u)
   pub is_kept : (seat : ℕ) (u : UserState) → get_elem? actors seat ≡ some (model.User u)
       → (k : ℕ) → k < length u.starts → k < u.k → IsKept history u k
-  -- each page that was read, where lines change pages, is the page as of its lsn
+  -- where lines change pages, what each read came to holds of the run
   pub are_read : log_only ≡ false → (seat : ℕ)
-      → AllByRecursion (IsPageAsOf opened.pages (wholes_of script opened.shape.space history)) (reads seat)
+      → AllByRecursion (IsReadEndOf opened.pages (wholes_of script opened.shape.space history) left.code) (reads seat)
   pub is_run : (end : ℕ) → opened.start ≡ start_after end
       → IsRun script (record { shape = opened.shape; pages = opened.pages; end = end })
       (closed_run opened.start (closed_with left history))

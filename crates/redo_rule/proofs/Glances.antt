@@ -25,9 +25,10 @@ use Rattle.model_core.specs.declared.words.Word.TheVariants as word
 use Rattle.model_logcore.proofs.AnswersFit.{small_sn}
 use Rattle.model_own.specs.ErrandFits.{has_work}
 use Rattle.model_reads.proofs.Looking.{added_fits, begun_fits, dated_fits, freed_fits, read_fits}
-use Rattle.model_reads.specs.{added, AreRead, begun, dated, freed, GlanceFits, IsRead, newest_in, read_of}
+use Rattle.model_reads.specs.{added, AreRead, begun, dated, freed, GlanceFits, ReadEndFits, newest_in, read_of}
 use Rattle.model_reads.specs.declared.read.Glance.{Glance}
-use Rattle.model_reads.specs.declared.read.PageRead.{PageRead}
+use Rattle.model_reads.specs.declared.read.ReadEnd.{ReadEnd}
+use Rattle.model_reads.specs.declared.read.ReadEnd.TheVariants.{Failed, Page}
 use Rattle.redo_disk.specs.{Call}
 use Rattle.redo_disk.specs.Sight.{Seen}
 use Rattle.redo_drive.proofs.FailureCode.{small_code}
@@ -249,12 +250,41 @@ module _ {L D : Type 0} (log_seen : L → Seen) (log_gives : L → Call → L �
 
   -- FAILED is loaded
   pub check_allows : (i : ℕ) → i ≡ index me.0.layout word.Failed → Allows Law slots id me i (λ n. n) (checks me)
-  check_allows i is = allows (checks me) i (λ s R at. idle (checks me) (slice_index s.words i) s R at (
-    subst (λ (n : ℕ). n < 2 ^ 32)
-        (sym (its_word log_seen log_gives data_seen data_gives about s R id me.0 x sits at word.Failed i is))
-        (small_code log_seen data_seen R.run R.parts R.actors R.runs),
-    refl,
-  ))
+  check_allows i is = allows (checks me) i (λ s R at. by s R at (ℕ_discrete (slice_index s.words i) 0))
+    where
+      abbrev loaded : State (Slot L D) (View L D) → ℕ
+      loaded s = slice_index s.words i
+
+      is_small : (s : State (Slot L D) (View L D)) (R : Law s) → get_elem? s.views id ≡ maybe.some me.0
+          → loaded s < 2 ^ 32
+      is_small s R at = subst (λ (n : ℕ). n < 2 ^ 32)
+          (sym (its_word log_seen log_gives data_seen data_gives about s R id me.0 x sits at word.Failed i is))
+          (small_code log_seen data_seen R.run R.parts R.actors R.runs)
+
+      by : (s : State (Slot L D) (View L D)) (R : Law s) → get_elem? s.views id ≡ maybe.some me.0
+          → Dec (loaded s ≡ 0) → Picks (checks me) (loaded s) s R
+      by s R at (yes none) = idle (checks me) (loaded s) s R at
+          (is_small s R at, (λ z. refl), (λ some. absurd (some none)))
+      by s R at (no some) =
+          let word_is = its_word log_seen log_gives data_seen data_gives about s R id me.0 x sits at word.Failed i is in
+          record {
+            heard = with_read x.heard (Failed (loaded s));
+            groups = refl;
+            blocks = refl;
+            has = record {
+              done = all_snoc (ReadEndFits R.run.setup R.parts.words.words R.runs.running.log_ghost.log) x.heard.reads
+                  (Failed (loaded s))
+                  (its_reads log_seen log_gives data_seen data_gives about s R id me.0 x sits at).done
+                  (omega arith, omega arith);
+              now = tt;
+            };
+            so = (
+              is_small s R at,
+              (λ none. absurd (some none)),
+              (λ z y one. let seat : ◌≡◌ {A = Numbered} x y = one_head me.0.seats x y sits one in
+                  λ j. (view_heard me.0 (seat j) (with_read (seat j).heard (Failed (loaded s))), me.1)),
+            );
+          }
 
   module _ (g : Glance) (is_g : ◌≡◌ {A = Option Glance} x.heard.glance (Some g)) where
     its_seat : (y : Numbered) (k : Glance) → IsReading me.0 y k → ◌≡◌ {A = Numbered} x y
@@ -362,11 +392,12 @@ module _ {L D : Type 0} (log_seen : L → Seen) (log_gives : L → Call → L �
             let W = R.runs.running in
             let size = its_size log_seen log_gives data_seen data_gives about s R id me.0 x sits at in
             let fits = glance_fits log_seen log_gives data_seen data_gives about s R id me.0 x sits at g is_g in record {
-              heard = with_read x.heard (read_of g);
+              heard = with_read x.heard (Page (read_of g));
               groups = refl;
               blocks = refl;
               has = record {
-                done = all_snoc (IsRead R.run.setup R.parts.words.words W.log_ghost.log) x.heard.reads (read_of g)
+                done = all_snoc (ReadEndFits R.run.setup R.parts.words.words W.log_ghost.log) x.heard.reads
+                    (Page (read_of g))
                     (its_reads log_seen log_gives data_seen data_gives about s R id me.0 x sits at).done
                     (read_fits (run_log_side log_seen data_seen R.run) (run_data_side log_seen data_seen R.run)
                     R.run.setup W.shared W.log_ghost W.page_ghost (lists_of R.parts.lists) R.parts.log R.parts.store
@@ -377,7 +408,7 @@ module _ {L D : Type 0} (log_seen : L → Seen) (log_gives : L → Call → L �
               };
               so = λ y l o. (
                 (λ z. let seat = its_seat y l o in let one = its_glance y l o in
-                    λ j. (view_heard me.0 (seat j) (with_read (seat j).heard (read_of (one j))), me.1)),
+                    λ j. (view_heard me.0 (seat j) (with_read (seat j).heard (Page (read_of (one j)))), me.1)),
                 (λ other. absurd (other (same ∙ sym (same_newest y l o)))),
               );
             }

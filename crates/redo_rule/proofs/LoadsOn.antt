@@ -15,10 +15,11 @@ use Rattle.model_core.specs.declared.limits.TheConstants.{WORD_LANES}
 use Rattle.model_core.specs.declared.words.Layout.{Layout}
 use Rattle.model_page.specs.{user_part}
 use Rattle.model_reads.specs.declared.read.Glance.{Glance}
-use Rattle.model_reads.specs.declared.read.PageRead.{PageRead}
+use Rattle.model_reads.specs.declared.read.ReadEnd.{ReadEnd}
+use Rattle.model_reads.specs.declared.read.ReadEnd.TheVariants.{Failed, Page}
 use Rattle.redo_rule.proofs.Retook.{one_head}
 use Rattle.model_reads.specs.{added, dated, freed, read_of}
-use Rattle.redo_rule.specs.Reading.{adds, dates, ends, frees, Glanced, glancing, HasEnded, HasOwnBelow, HasReadNone, HasReadPage, HasUserBytes, IsAt, IsReading, lane_at, MayRead, numbered_heard, view_heard, view_seats, with_glance, with_read}
+use Rattle.redo_rule.specs.Reading.{adds, checks, dates, ends, frees, Glanced, glancing, HasEnded, HasOwnBelow, HasReadNone, HasReadPage, HasUserBytes, IsAt, IsReading, lane_at, MayRead, numbered_heard, view_heard, view_seats, with_glance, with_read}
 use Rattle.redo_rule.specs.declared.law.Heard.{Heard}
 use Rattle.redo_rule.specs.declared.law.Numbered.{Numbered}
 use Rattle.redo_rule.specs.declared.law.Slot.{Slot}
@@ -118,7 +119,7 @@ module _ {L D : Type 0} (table : TableId) (layout : Layout) (page : ℕ) where
         (view_heard m.0 (numbered_heard x (with_glance x.heard k)) (with_glance x.heard l), m.1) in n) first;
   }
 
-  pub ended_on : (s t u : Seat (Slot L D) (View L D)) (k : Glance) (r : PageRead) → MayRead table s layout page
+  pub ended_on : (s t u : Seat (Slot L D) (View L D)) (k : Glance) (r : ReadEnd) → MayRead table s layout page
       → Glanced s k t → HasEnded t r u → HasEnded s r u
   ended_on s t u k r o one two = record {
     of = two.of ∙ one.of;
@@ -158,6 +159,15 @@ none_still {L} {D} s t of id me = record {
   );
 }
 
+-- A LOAD OF FAILED leaves the read to go on, or has ended it,
+module _ {L D : Type 0} (s t : Seat (Slot L D) (View L D)) (of : t.table_id ≡ s.table_id) (id : t.id ≡ s.id) (n : ℕ)
+    (then : checks s.me n t.me) where
+  pub unfailed_then : n ≡ 0 → HasReadNone s t
+  unfailed_then none = none_still s t of id (then.1 none)
+
+  pub failed_then : n ≢ 0 → HasEnded s (Failed n) t
+  failed_then some = record { of = of; id = id; is = then.2 some }
+
 -- and whatever is done then is done behind that
 module _ {L D : Type 0} (s t u : Seat (Slot L D) (View L D)) (one : HasReadNone s t) where
   view_then : (x : Numbered) (sits : s.me.0.seats ≡ x ∷ []) (heard : Heard)
@@ -181,6 +191,14 @@ module _ {L D : Type 0} (s t u : Seat (Slot L D) (View L D)) (one : HasReadNone 
         (then.0, then.1 ∙ view_then x sits (glancing x.heard then.0));
   }
 
+  pub ended_behind : (r : ReadEnd) → HasEnded t r u → HasEnded s r u
+  ended_behind r two = record {
+    of = two.of ∙ one.of;
+    id = two.id ∙ one.id;
+    is = λ x sits. two.is (numbered_heard x (glancing x.heard (one.is x sits).0)) (seats_then x sits)
+        ∙ view_then x sits (with_read x.heard r);
+  }
+
   pub read_on : (page as_of : ℕ) (bytes : List ℕ) → HasReadPage t page as_of bytes u → HasReadPage s page as_of bytes u
   read_on page as_of bytes two = record {
     of = two.of ∙ one.of;
@@ -190,7 +208,7 @@ module _ {L D : Type 0} (s t u : Seat (Slot L D) (View L D)) (one : HasReadNone 
     own = λ x sits. two.own (numbered_heard x (glancing x.heard (one.is x sits).0)) (seats_then x sits);
     is = λ x sits.
         two.is (numbered_heard x (glancing x.heard (one.is x sits).0)) (seats_then x sits)
-        ∙ view_then x sits (with_read x.heard (record { page = page; lsn = as_of; bytes = bytes }));
+        ∙ view_then x sits (with_read x.heard (Page (record { page = page; lsn = as_of; bytes = bytes })));
   }
 
 -- WHAT A LOAD LEAVES
@@ -221,7 +239,7 @@ module _ {L D : Type 0} (table : TableId) (layout : Layout) (page : ℕ) (s t : 
   held_then n then held = glanced_self table layout page s g o t of id
       ((then o.may.who g (its_reading o.may.who o.may.sits)).1 held)
 
-  pub ended_then : (n : ℕ) → ends s.me n t.me → n ≡ g.newest → HasEnded s (read_of g) t
+  pub ended_then : (n : ℕ) → ends s.me n t.me → n ≡ g.newest → HasEnded s (Page (read_of g)) t
   ended_then n then same = record { of = of; id = id; is = λ x sits. (then x g (its_reading x sits)).0 same }
 
   pub moved_then : (n : ℕ) → ends s.me n t.me → n ≢ g.newest → Glanced s g t

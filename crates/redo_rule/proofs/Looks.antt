@@ -12,6 +12,7 @@ use Rattle.model_core.specs.declared.words.Layout.{Layout}
 use Rattle.model_log.specs.{lsn_of}
 use Rattle.model_reads.specs.{added, begun, dated, freed, read_of}
 use Rattle.model_reads.specs.declared.read.Glance.{Glance}
+use Rattle.model_reads.specs.declared.read.ReadEnd.TheVariants.{Page}
 use Rattle.redo_rule.proofs.LoadsOn.{at_then, ended_on, glanced_on, next_bytes, none_by, user_bytes_are}
 use Rattle.redo_rule.specs.Reading.{Glanced, HasAllWords, HasEnded, HasOwnBelow, HasReadNone, HasReadPage, IsAt, lane_at, looked, MayRead, numbered_heard, view_heard, with_glance, with_read}
 use Rattle.redo_rule.specs.declared.law.Numbered.{Numbered}
@@ -108,10 +109,10 @@ module _ {L D : Type 0} (table : TableId) (layout : Layout) (page : ℕ) (old : 
         pub has_read : ((x : Numbered) → t2.me.0.seats ≡ x ∷ [] → HasOwnBelow x.actor sn)
             → length bytes + frame_length ≡ size → (as_of : ℕ) → as_of ≡ lsn sn
             → (t5 : Seat (Slot L D) (View L D))
-            → HasEnded t4 (read_of (freed (dated (looked page newest two.words) sn))) t5
+            → HasEnded t4 (Page (read_of (freed (dated (looked page newest two.words) sn)))) t5
             → HasReadPage old page as_of bytes t5
         has_read own long as_of as_of_is t5 five =
-            let all = ended_on table layout page old t4 t5 as_freed (read_of as_freed) may freed_on five in
+            let all = ended_on table layout page old t4 t5 as_freed (Page (read_of as_freed)) may freed_on five in
             let same_bytes = user_bytes_are two.words bytes (long ∙ sym two.all) two.its_bytes in record {
               of = all.of;
               id = all.id;
@@ -122,12 +123,12 @@ module _ {L D : Type 0} (table : TableId) (layout : Layout) (page : ℕ) (old : 
               is = λ x sits. all.is x sits
                   ∙ ap (λ (l : ℕ). let m : Me (Slot L D) (View L D) = (
                     view_heard old.me.0 x (with_read x.heard
-                        (record { page = page; lsn = l; bytes = (read_of as_freed).bytes })),
+                        (Page (record { page = page; lsn = l; bytes = (read_of as_freed).bytes }))),
                     old.me.1,
                   ) in m) (sym as_of_is)
                   ∙ ap (λ (b : List ℕ). let m : Me (Slot L D) (View L D) = (
                     view_heard old.me.0 x (with_read x.heard
-                        (record { page = page; lsn = as_of; bytes = b })),
+                        (Page (record { page = page; lsn = as_of; bytes = b }))),
                     old.me.1,
                   ) in m) (sym same_bytes);
             }

@@ -11,9 +11,10 @@ use Rattle.model_logcore.specs.LogLaws.{LogLaws}
 use Rattle.model_pagecore.specs.DataLaws.{DataLaws}
 use Rattle.model_reads.proofs.Lasting.{glance_if, HasGoneOn, reads_last}
 use Rattle.model_reads.proofs.Turning.{turn_goes_on}
-use Rattle.model_reads.specs.{AreRead, GlanceFits, IsRead}
+use Rattle.model_reads.specs.{AreRead, GlanceFits, ReadEndFits}
 use Rattle.model_reads.specs.declared.read.Glance.{Glance}
-use Rattle.model_reads.specs.declared.read.PageRead.{PageRead}
+use Rattle.model_reads.specs.declared.read.ReadEnd.{ReadEnd}
+use Rattle.model_reads.specs.declared.read.ReadEnd.TheVariants.{Failed, Page}
 use Rattle.redo_disk.specs.{Seen}
 use Rattle.redo_drive.proofs.TurnsOf.{goes_on, runs_then}
 use Rattle.redo_drive.specs.{HasSamePages, RunOf, run_data_side, run_log_side, RunsWith, core_of}
@@ -67,12 +68,13 @@ module _ {L D : Type 0} {archive : Bool} (log_seen : L → Seen) (data_seen : D 
 
 -- a line that is handed in changes no page
 module _ (c : Setup) (user : ℕ) (more : List Line) (ws : List ℕ) (log : List Entry) where
-  reads_still : (reads : List PageRead) → AreRead c ws log reads → AreRead (grown c user more) ws log reads
+  end_still : (r : ReadEnd) → ReadEndFits c ws log r → ReadEndFits (grown c user more) ws log r
+  end_still (Page r) o = record { there = o.there; upto = o.upto; bytes = o.bytes }
+  end_still (Failed code) o = o
+
+  reads_still : (reads : List ReadEnd) → AreRead c ws log reads → AreRead (grown c user more) ws log reads
   reads_still [] all = tt
-  reads_still (r ∷ rs) all = (
-    record { there = all.0.there; upto = all.0.upto; bytes = all.0.bytes },
-    reads_still rs all.1,
-  )
+  reads_still (r ∷ rs) all = (end_still r all.0, reads_still rs all.1)
 
   glance_still : (g : Option Glance) → IfSome g (GlanceFits c ws log) → IfSome g (GlanceFits (grown c user more) ws log)
   glance_still None fits = tt

@@ -50,7 +50,7 @@ abbrev pub HaveHandedOn : (D : LogSide) → (base : ℕ) → D.Part → (heard :
 HaveHandedOn D base part heard actors log =
     D.Tells part → (n : ℕ) (a : model.Actor) → get_elem? actors n ≡ some a → HasHandedOn D base log a (heard n)
 
--- WHAT WAS READ OF PAGES in a seat is right, and so is what is known of a page that is being read.
+-- WHAT READS CAME TO in a seat is right, and so is what is known of a page that is being read.
 pub record HasRead (c : Setup) (ws : List ℕ) (log : List Entry) (heard : Heard) : Type 0 where
   pub done : AreRead c ws log heard.reads
   pub now : IfSome heard.glance (GlanceFits c ws log)

@@ -11,17 +11,18 @@ use Rattle.model_core.specs.declared.limits.TheConstants.{WORD_LANES}
 use Rattle.model_core.specs.declared.words.Layout.{Layout}
 use Rattle.model_reads.specs.{added, begun, dated, freed, read_of}
 use Rattle.model_reads.specs.declared.read.Glance.{Glance}
-use Rattle.model_reads.specs.declared.read.PageRead.{PageRead}
+use Rattle.model_reads.specs.declared.read.ReadEnd.{ReadEnd}
+use Rattle.model_reads.specs.declared.read.ReadEnd.TheVariants.{Failed, Page}
 use Rattle.redo_rule.specs.declared.law.Heard.{Heard}
 use Rattle.redo_rule.specs.declared.law.Numbered.{Numbered}
 use Rattle.redo_rule.specs.declared.law.Slot.{Slot}
 use Rattle.redo_rule.specs.declared.law.View.{View}
 
--- a page is being read; and it was read
+-- a page is being read;
 abbrev pub with_glance : Heard → Glance → Heard
 with_glance heard g = record { groups = heard.groups; blocks = heard.blocks; reads = heard.reads; glance = Some g }
 
--- or this is known of one, if any
+-- or this is known of one, if any;
 abbrev pub glancing : Heard → Option Glance → Heard
 glancing heard glance = record {
   groups = heard.groups;
@@ -30,7 +31,8 @@ glancing heard glance = record {
   glance = glance;
 }
 
-abbrev pub with_read : Heard → PageRead → Heard
+-- or a read came to this
+abbrev pub with_read : Heard → ReadEnd → Heard
 with_read heard r = record {
   groups = heard.groups;
   blocks = heard.blocks;
@@ -66,9 +68,10 @@ module _ {L D : Type 0} where
   abbrev pub IsReading : View L D → Numbered → Glance → Type 0
   IsReading v x g = (v.seats ≡ x ∷ []) × ◌≡◌ {A = Option Glance} x.heard.glance (Some g)
 
-  -- THE LOADS: of FAILED, by which nothing changes,
+  -- THE LOADS: of FAILED, which ends the read where that isn't 0,
   abbrev pub checks : Me (Slot L D) (View L D) → ℕ → Me (Slot L D) (View L D) → Type 0
-  checks m n m' = (n < 2 ^ 32) × (m' ≡ m)
+  checks m n m' = (n < 2 ^ 32) × (n ≡ 0 → m' ≡ m)
+      × (n ≢ 0 → (x : Numbered) → m.0.seats ≡ x ∷ [] → m' ≡ (view_heard m.0 x (with_read x.heard (Failed n)), m.1))
 
   -- of NEWEST, which begins,
   abbrev pub begins : (page : ℕ) → Me (Slot L D) (View L D) → ℕ → Me (Slot L D) (View L D) → Type 0
@@ -93,7 +96,7 @@ module _ {L D : Type 0} where
   -- and of NEWEST again
   abbrev pub ends : Me (Slot L D) (View L D) → ℕ → Me (Slot L D) (View L D) → Type 0
   ends m n m' = (x : Numbered) (g : Glance) → IsReading m.0 x g
-      → (n ≡ g.newest → m' ≡ (view_heard m.0 x (with_read x.heard (read_of g)), m.1)) × (n ≢ g.newest → m' ≡ m)
+      → (n ≡ g.newest → m' ≡ (view_heard m.0 x (with_read x.heard (Page (read_of g))), m.1)) × (n ≢ g.newest → m' ≡ m)
 
   -- A PAGE MAY BE READ in the seat, which is at this table and of one actor.
   pub record MayRead (table : TableId) (seat : Seat (Slot L D) (View L D)) (layout : Layout) (page : ℕ) : Type 0 where
@@ -129,7 +132,7 @@ module _ {L D : Type 0} where
     pub own : (x : Numbered) → old.me.0.seats ≡ x ∷ [] → HasOwnBelow x.actor sn
     pub is : (x : Numbered) → old.me.0.seats ≡ x ∷ [] → new.me ≡ (
       view_heard old.me.0 x
-          (with_read x.heard (record { page = page; lsn = as_of; bytes = bytes })),
+          (with_read x.heard (Page (record { page = page; lsn = as_of; bytes = bytes }))),
       old.me.1,
     )
 
@@ -155,8 +158,8 @@ abbrev pub looked : (page n : ℕ) → List ℕ → Glance
 looked page n words = record { page = page; newest = n; words = words; upto = n; seen_free = false }
 
 module _ {L D : Type 0} where
-  -- the page was read
-  pub record HasEnded (old : Seat (Slot L D) (View L D)) (r : PageRead) (new : Seat (Slot L D) (View L D)) : Type 0 where
+  -- THE READ HAS COME TO THIS in the seat, and all else is as it was
+  pub record HasEnded (old : Seat (Slot L D) (View L D)) (r : ReadEnd) (new : Seat (Slot L D) (View L D)) : Type 0 where
     pub of : new.table_id ≡ old.table_id
     pub id : new.id ≡ old.id
     pub is : (x : Numbered) → old.me.0.seats ≡ x ∷ []

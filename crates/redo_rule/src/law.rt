@@ -1,7 +1,7 @@
 // The rule of the table, and what a seat knows.
 use atomic_table::{Shared, Table, TableRule};
 use model_own::ErrandStep;
-use model_reads::{Glance, PageRead};
+use model_reads::{Glance, ReadEnd};
 use model_script::Script;
 use redo_disk::Sectors;
 use redo_drive::{Actor, Plan};
@@ -89,13 +89,13 @@ pub struct Block {
     pub bytes: LinkedList<u8>,
 }
 
-/// What an actor has handed on: a follower groups, to its receiver, and the archiver blocks, to its archive; and which pages
-/// were read in its seat, with the one that is being read. No value of it is made.
+/// What an actor has handed on: a follower groups, to its receiver, and the archiver blocks, to its archive; and what reads in
+/// its seat came to, with the page that is being read. No value of it is made.
 #[derive(Drop)]
 pub struct Heard {
     pub groups: Groups,
     pub blocks: LinkedList<Block>,
-    pub reads: LinkedList<PageRead>,
+    pub reads: LinkedList<ReadEnd>,
     pub glance: Option<Glance>,
 }
 

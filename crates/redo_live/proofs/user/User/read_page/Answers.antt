@@ -1,7 +1,8 @@
 use Rattle.std.proofs.Common.{ap, arith, refl, subst, sym, ◌%◌, ◌∙◌, ◌≡◌}
-use Rattle.redo_live.proofs.PageReads.{has_read, may_read, none_stays, read_nothing, read_stays, whole_words}
+use Rattle.model_reads.specs.declared.read.ReadEnd.TheVariants as read_end
+use Rattle.redo_live.proofs.PageReads.{failed_stays, has_failed, has_read, may_read, read_stays, whole_words}
 use Rattle.redo_live.proofs.user.User.read_page.Goals as goal
-use Rattle.redo_rule.proofs.LoadsOn.{may_still, none_on, none_still, read_on}
+use Rattle.redo_rule.proofs.LoadsOn.{ended_behind, may_still, none_on, none_still, read_on}
 
 pub loop-init : goal.loop-init
 loop-init g c = record {
@@ -57,21 +58,23 @@ loop-preserved g c = record {
   used = c.loop.invariant.used;
   none = none_on c.args.self.now.seat c.look.new.token c.failure.new.token
       (none_on c.args.self.now.seat c.loop.self.seat c.look.new.token c.loop.invariant.none c.in_default.ensures.read)
-      c.failure.ensures.none;
+      c.in_default-2.ensures.read;
 }
 
 pub returns-in-Some-failure-clause-mine : goal.returns-in-Some-failure-clause-mine
-returns-in-Some-failure-clause-mine g c = none_stays c.args.store.now c.args.self.now c.requires.user _
-    c.loop.invariant.plays c.loop.invariant.used
-    (none_on c.args.self.now.seat c.look.new.token c.failure.new.token
+returns-in-Some-failure-clause-mine g c = failed_stays c.args.store.now c.args.self.now c.requires.user _
+    c.loop.invariant.plays c.loop.invariant.used c.in-Some-failure.code
+    (ended_behind c.args.self.now.seat c.look.new.token c.failure.new.token
     (none_on c.args.self.now.seat c.loop.self.seat c.look.new.token c.loop.invariant.none c.in_default.ensures.read)
-    c.failure.ensures.none)
+    (read_end.Failed c.in-Some-failure.code) c.in-Some-failure.ensures.read)
 
 pub returns-in-Some-failure-clause-err : goal.returns-in-Some-failure-clause-err
 returns-in-Some-failure-clause-err g c = (
+  c.if-store.false,
   c.in-Some-failure.ensures.code,
-  read_nothing c.args.store.now c.args.self.now c.requires.user _ c.loop.invariant.plays c.loop.invariant.used
-      (none_on c.args.self.now.seat c.look.new.token c.failure.new.token
+  has_failed c.args.store.now c.args.self.now c.requires.user _ c.loop.invariant.plays c.loop.invariant.used
+      c.in-Some-failure.code
+      (ended_behind c.args.self.now.seat c.look.new.token c.failure.new.token
       (none_on c.args.self.now.seat c.loop.self.seat c.look.new.token c.loop.invariant.none c.in_default.ensures.read)
-      c.failure.ensures.none),
+      (read_end.Failed c.in-Some-failure.code) c.in-Some-failure.ensures.read),
 )
