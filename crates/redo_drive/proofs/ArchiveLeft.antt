@@ -36,6 +36,7 @@ use Rattle.redo_drive.specs.declared.actor.Actor.{Actor}
 use Rattle.redo_drive.specs.declared.device.Device.TheVariants.{Data, Log}
 use Rattle.redo_drive.specs.declared.drive.Driven.{Driven}
 use Rattle.redo_drive.specs.declared.parts.Parts.{Parts}
+use Rattle.redo_drive.specs.declared.plan.Plan.{Plan}
 use Rattle.redo_logdev.specs.{PartHolds}
 use Rattle.redo_logdev.specs.Part as log
 use Rattle.redo_store.specs.declared.opened.Opened.{Opened}
@@ -62,11 +63,11 @@ module _ {L D A : Type 0} {archive : Bool} (log_seen : L → Seen) (data_seen : 
       (some-injective (model.Reader S.archiver) (model.Reader r) (sym S.at ∙ ap (get_elem? actors) (sym here) ∙ lost.at)) in
       sym is ∙ ap (λ (x : ReaderState). x.lost) (sym mine) ∙ S.pace.lost
 
-module _ {L D A R : Type 0} {archive : Bool} {gives : A → Call → A → Type 0} (log_seen : L → Seen)
+module _ {L D A R : Type 0} {gives : A → Call → A → Type 0} (log_seen : L → Seen)
     (log_gives : L → Call → L → Type 0) (data_seen : D → Seen) (data_gives : D → Call → D → Type 0) (seen : A → Seen)
-    (stands : R → List Given → Type 0) (opened : Opened L D) (script : List ScriptLine) (log_only : Bool)
-    (followers : ℕ) (starts actors : List (Actor R)) (driven : Driven L D)
-    (by : LeavesWith log_seen log_gives data_seen data_gives stands opened script log_only archive followers starts actors
+    (stands : R → List Given → Type 0) (opened : Opened L D) (script : List ScriptLine) (plan : Plan)
+    (starts actors : List (Actor R)) (driven : Driven L D)
+    (by : LeavesWith log_seen log_gives data_seen data_gives stands opened script plan starts actors
     driven.closed) (before after : Part A)
     (C : HasCome log_seen data_seen seen gives by.run by.last (views_of actors) by.from.runs before after)
     (failed : after.failed ≡ driven.closed.lost) where
@@ -194,8 +195,8 @@ module _ {L D A R : Type 0} {archive : Bool} {gives : A → Call → A → Type 
     flushed = (let e = flushed_same in let up = S.pace.up_to in omega arith);
     asked = subst (λ (n : ℕ). AsksUpTo n after) (sym flushed_same) S.asked;
     to_finish = to_finish;
-    run = λ begun_so reading as_read. where_started log_seen log_gives data_seen data_gives stands opened script log_only
-        followers starts actors driven by reading as_read _ (λ log_disk data_disk start begun.
+    run = λ begun_so reading as_read. where_started log_seen log_gives data_seen data_gives stands opened script plan
+        starts actors driven by reading as_read _ (λ log_disk data_disk start begun.
         if_told (log_seen driven.closed.log.dev).tells _ (λ log_now log_told. archives_run begun (tells log_now log_told) begun_so));
   }
     where

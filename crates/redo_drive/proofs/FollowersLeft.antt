@@ -28,6 +28,7 @@ use Rattle.redo_drive.specs.History.{followers_in, view_of, views_of}
 use Rattle.redo_drive.specs.declared.actor.Actor.{Actor}
 use Rattle.redo_drive.specs.declared.actor.Actor.TheVariants as own
 use Rattle.redo_drive.specs.declared.seating.TheConstants.{FIRST_FOLLOWER}
+use Rattle.redo_drive.specs.declared.plan.Plan.{Plan}
 
 -- a group that a run tells of is the log's, at its place
 module _ (x : ℕ) where
@@ -136,10 +137,12 @@ after_users : (users : List UserState) (others : List model.Actor) → NoReaders
 after_users [] others none = none
 after_users (u ∷ users) others none = after_users users others none
 
-no_others : (shape : Shape) (start : ℕ) (b archive : Bool) (followers : ℕ)
-    → NoReaders (page_actors shape start b archive followers)
-no_others shape start true archive followers = tt
-no_others shape start false archive followers = tt
+no_others : (shape : Shape) (start : ℕ) (plan : Plan) → NoReaders (page_actors shape start plan)
+no_others shape start plan = by plan.log_only
+  where
+    by : (b : Bool) → NoReaders (page_actors shape start (record plan { log_only = b }))
+    by true = tt
+    by false = tt
 
 long_followers : (start number n : ℕ) → length (followers_from start number n) ≡ n
 long_followers start number zero = refl
@@ -160,15 +163,14 @@ front_has_none front back starts n are few none =
     none_among (take k starts) (subst NoReaders (sym views) none)
 
 -- the followers among the actors of a run's start are those that it was given
-pub starts_with : {R : Type 0} (shape : Shape) (script : List ScriptLine) (start : ℕ) (log_only archive : Bool)
-    (fs : List (Following R)) (starts : List (Actor R))
-    → views_of starts ≡ seated_actors shape script start log_only archive (length fs)
-    → EndsWithReaders start archive starts fs
+pub starts_with : {R : Type 0} (shape : Shape) (script : List ScriptLine) (start : ℕ) (plan : Plan)
+    (fs : List (Following R)) (starts : List (Actor R)) → plan.followers ≡ length fs
+    → views_of starts ≡ seated_actors shape script start plan → EndsWithReaders start plan.archive starts fs
     → ◌≡◌ {A = List (Following R)} (followers_in starts) fs
-starts_with {R} shape script start log_only archive fs starts are ends =
-    by archive (seated_before shape script start log_only archive (length fs)) are
-    (after_users (users_of shape log_only script) (other_actors shape start log_only archive (length fs))
-    (no_others shape start log_only archive (length fs))) ends
+starts_with {R} shape script start plan fs starts many are ends =
+    by plan.archive (seated_before shape script start plan) are
+    (after_users (users_of shape plan.log_only script) (other_actors shape start plan)
+    (no_others shape start plan)) ends
   where
     joined : (n : ℕ) → ◌≡◌ {A = List (Following R)} (followers_in (take (length starts - n) starts)) []
         → ◌≡◌ {A = List (Following R)} (followers_in starts) (followers_in (drop (length starts - n) starts))
@@ -177,18 +179,22 @@ starts_with {R} shape script start log_only archive fs starts are ends =
         ap followers_in (sym (take-append-drop k starts)) ∙ followers_both (take k starts) (drop k starts)
         ∙ ap (λ (l : List (Following R)). l ++ followers_in (drop k starts)) nothing
 
-    by : (b : Bool) (front : List model.Actor) → views_of starts ≡ front ++ readers_of start b (length fs)
+    by : (b : Bool) (front : List model.Actor) → views_of starts
+        ≡ front ++ readers_of start (record plan { archive = b })
         → NoReaders front → EndsWithReaders start b starts fs
         → ◌≡◌ {A = List (Following R)} (followers_in starts) fs
     by true front are none ends =
-        let few = long_followers start FIRST_FOLLOWER (length fs) in
+        let few : length (followers_from start FIRST_FOLLOWER plan.followers) ≡ length fs =
+        long_followers start FIRST_FOLLOWER plan.followers ∙ many in
         joined (suc (length fs))
-        (front_has_none front (readers_of start true (length fs)) starts (suc (length fs)) are (ap suc few) none)
+        (front_has_none front (readers_of start (record plan { archive = true })) starts (suc (length fs)) are
+            (ap suc few) none)
         ∙ ap followers_in ends ∙ all_followers fs
     by false front are none ends =
-        let few = long_followers start FIRST_FOLLOWER (length fs) in
+        let few : length (followers_from start FIRST_FOLLOWER plan.followers) ≡ length fs =
+        long_followers start FIRST_FOLLOWER plan.followers ∙ many in
         joined (length fs)
-        (front_has_none front (readers_of start false (length fs)) starts (length fs) are few none)
+        (front_has_none front (readers_of start (record plan { archive = false })) starts (length fs) are few none)
         ∙ ap followers_in ends ∙ all_followers fs
 
 -- what holds of the followers among some actors holds of one at its seat

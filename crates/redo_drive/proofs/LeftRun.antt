@@ -64,6 +64,7 @@ use Rattle.redo_drive.specs.declared.actor.Actor.TheVariants as own
 use Rattle.redo_drive.specs.declared.drive.Driven.{Driven}
 use Rattle.redo_drive.specs.declared.drive.RunEnd.TheVariants as ended
 use Rattle.redo_drive.specs.declared.seating.TheConstants.{FIRST_FOLLOWER}
+use Rattle.redo_drive.specs.declared.plan.Plan.{Plan}
 use Rattle.redo_store.specs.{IsRunnable}
 use Rattle.redo_store.specs.declared.opened.Opened.{Opened}
 use Rattle.redo_store.specs.Part as store
@@ -83,12 +84,12 @@ failure_counts : (fault : DevError) (failed : Option DevError) (all : ℕ) → f
 failure_counts Failed failed all is counts memory = let n : failures failed ≡ 1 = ap failures is in omega arith
 failure_counts NoMemory failed all is counts memory = memory is
 
-module _ {L D R : Type 0} {live archive : Bool} (log_seen : L → Seen) (log_gives : L → Call → L → Type 0)
+module _ {L D R : Type 0} {live : Bool} (log_seen : L → Seen) (log_gives : L → Call → L → Type 0)
     (data_seen : D → Seen)
     (data_gives : D → Call → D → Type 0) (stands : R → List Given → Type 0) (opened : Opened L D)
-    (script : List ScriptLine) (log_only : Bool) (followers : ℕ) (starts actors : List (Actor R)) (driven : Driven L D)
-    (by : LeavesAs log_seen log_gives data_seen data_gives stands opened script live log_only archive followers starts
-    actors driven.closed) where
+    (script : List ScriptLine) (plan : Plan) (starts actors : List (Actor R)) (driven : Driven L D)
+    (by : LeavesAs log_seen log_gives data_seen data_gives stands opened script live plan starts actors
+    driven.closed) where
   abbrev run : RunOf L D
   run = by.run
 
@@ -121,15 +122,15 @@ module _ {L D R : Type 0} {live archive : Bool} (log_seen : L → Seen) (log_giv
       (finished_run logs run.setup by.from.runs.running.shared by.from.runs.running.log_ghost by.last.log (views_of actors) by.from.runs.running.both.logged script was by.is_run.of_script (by.is_run.start ∙ start))
 
   -- without an archiver no append has failed
-  none_lost : archive ≡ false → (code : ℕ) → HasLost (views_of actors) code → ⊥
+  none_lost : plan.archive ≡ false → (code : ℕ) → HasLost (views_of actors) code → ⊥
   none_lost alone = none_loses run.setup (views_of actors) by.from.runs.running.both.in_run
       (let first = by.is_run.first_is in let one = ap first_reader alone in omega arith)
 
   -- an append that has failed did so by an error
   lost_by : (code : ℕ) → HasLost (views_of actors) code → (fault : DevError) × (driven.closed.lost ≡ Some fault)
-  lost_by code lost = some_fault driven.closed.lost (same archive refl)
+  lost_by code lost = some_fault driven.closed.lost (same plan.archive refl)
     where
-      same : (b : Bool) → archive ≡ b → code ≡ append_code driven.closed.lost
+      same : (b : Bool) → plan.archive ≡ b → code ≡ append_code driven.closed.lost
       same true is = subst (λ (b : Bool). cond {A = Type 0} b
           ((n : ℕ) → HasLost (views_of actors) n → n ≡ append_code driven.closed.lost) (Unit {0})) is by.lost code lost
       same false is = absurd (none_lost is code lost)
@@ -293,11 +294,11 @@ module _ {L D R : Type 0} {live archive : Bool} (log_seen : L → Seen) (log_giv
   }
 
   -- WHAT IT LEAVES OF FOLLOWERS.
-  module _ (fs : List (Following R)) (new : AreNewFollowers opened.start fs)
-      (are : views_of starts ≡ seated_actors opened.shape script opened.start log_only archive (length fs))
-      (ends : EndsWithReaders opened.start archive starts fs) where
+  module _ (fs : List (Following R)) (new : AreNewFollowers opened.start fs) (many : plan.followers ≡ length fs)
+      (are : views_of starts ≡ seated_actors opened.shape script opened.start plan)
+      (ends : EndsWithReaders opened.start plan.archive starts fs) where
     these : ◌≡◌ {A = List (Following R)} (followers_in starts) fs
-    these = starts_with opened.shape script opened.start log_only archive fs starts are ends
+    these = starts_with opened.shape script opened.start plan fs starts many are ends
 
     -- each has a number of its own
     is_numbered : (seat : ℕ) (f : Following R) → get_elem? starts seat ≡ some (own.Follower f) → 0 < f.state.number

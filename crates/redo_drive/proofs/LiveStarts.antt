@@ -1,5 +1,5 @@
 -- The run of a script, and a live run, can begin; what memory was taken for begins so.
-use Rattle.std.proofs.Common.{Bool, Err, List, Ok, Result, [], ap, arith, false, length, map, subst, sym, true, ℕ, ◌+◌, ◌<◌, ◌∙◌, ◌≡◌, ◌≤◌}
+use Rattle.std.proofs.Common.{Bool, Err, List, Ok, Result, [], ap, arith, false, length, map, refl, subst, sym, true, ℕ, ◌+◌, ◌<◌, ◌∙◌, ◌≡◌, ◌≤◌}
 use Rattle.std.specs.Prelude.{IfOk}
 use lib.ListN.{get_elem?}
 use mathlib.Core.Option.{some, some-ne-none}
@@ -13,51 +13,57 @@ use Rattle.model_script.specs.declared.script.ScriptLine.{ScriptLine}
 use Rattle.redo_drive.proofs.FirstUsers.{are_idle, idle_seat, script_users, seat_of_user}
 use Rattle.redo_drive.proofs.RunStarts.{CanBegin, lsn_at_start}
 use Rattle.redo_drive.proofs.ScriptRoom.{live_reserve, room_for_all}
-use Rattle.redo_drive.specs.LiveActors.{idle_users, live_actors}
+use Rattle.redo_drive.specs.LiveActors.{idle_users, live_actors, live_plan}
 use Rattle.redo_drive.specs.Begins.{begun_on, BeginsSo}
 use Rattle.redo_drive.specs.Setups.{users_of}
-use Rattle.redo_drive.specs.Startable.{AreNewFollowers, MayBegin}
+use Rattle.redo_drive.specs.Startable.{HasNewFollowers, MayBegin}
 use Rattle.redo_drive.specs.declared.making.Beginning.{Beginning}
 use Rattle.redo_drive.specs.declared.memory.Own.{Own}
 use Rattle.redo_drive.specs.declared.seating.TheConstants.{FIRST_FOLLOWER}
+use Rattle.redo_drive.specs.declared.plan.Plan.{Plan}
 use Rattle.redo_follow.specs.Following.{Following}
 use Rattle.redo_store.specs.{IsRunnable}
 use Rattle.redo_store.specs.declared.opened.Opened.{Opened}
 
 -- the run of a script, with the users that have lines
-pub script_begins : {L D R : Type 0} (opened : Opened L D) (script : List ScriptLine) (log_only archive : Bool)
-    (followers : List (Following R)) → MayBegin opened script log_only → AreNewFollowers opened.start followers
-    → CanBegin opened script false log_only archive followers (seat_of_user opened.shape log_only script)
-    (users_of opened.shape log_only script)
-script_begins opened script log_only archive followers may new = record {
+pub script_begins : {L D R : Type 0} (opened : Opened L D) (script : List ScriptLine) (plan : Plan)
+    (followers : List (Following R)) → MayBegin opened script plan.log_only
+    → HasNewFollowers plan opened.start followers
+    → CanBegin opened script false plan followers (seat_of_user opened.shape plan.log_only script)
+    (users_of opened.shape plan.log_only script)
+script_begins opened script plan followers may new = record {
   runnable = may.runnable;
   lines = may.lines;
   fits = may.fits.lines;
   new = new;
-  firsts = script_users opened.shape script log_only may.lines may.fits.lines;
-  room = room_for_all opened.shape script opened.start log_only archive (length followers) may.fits.lines may.fits.end;
+  firsts = script_users opened.shape script plan.log_only may.lines may.fits.lines;
+  room = room_for_all opened.shape script opened.start plan may.fits.lines may.fits.end;
 }
 
 -- no followers are new ones
-none_new : {R : Type 0} (start : ℕ) → AreNewFollowers {R = R} start []
-none_new start = record { few = omega arith; each = λ i follower at. absurd (some-ne-none follower (sym at)) }
+none_new : {R : Type 0} (log_only : Bool) (start : ℕ) → HasNewFollowers {R = R} (live_plan log_only) start []
+none_new log_only start = record {
+  new = record { few = omega arith; each = λ i follower at. absurd (some-ne-none follower (sym at)) };
+  many = refl;
+}
 
 -- a live run, with users that have no lines yet
 pub live_begins : {L D R : Type 0} (opened : Opened L D) (users : ℕ) (log_only : Bool) → IsRunnable opened
     → opened.start < LSN_LIMIT
-    → CanBegin {L = L} {D = D} {R = R} opened [] true log_only false [] idle_seat
+    → CanBegin {L = L} {D = D} {R = R} opened [] true (live_plan log_only) [] idle_seat
     (idle_users (run_layout opened.shape).blocks users)
 live_begins opened users log_only runnable below = record {
   runnable = runnable;
   lines = tt;
   fits = tt;
-  new = none_new opened.start;
+  new = none_new log_only opened.start;
   firsts = are_idle opened.shape users log_only;
   room =
-      let none : sum_over_actors left_to_reserve (live_actors opened.shape users opened.start log_only false 0) ≡ 0 =
-      live_reserve opened.shape users opened.start log_only false 0 in
+      let none : sum_over_actors left_to_reserve (live_actors opened.shape users opened.start (live_plan log_only))
+          ≡ 0 =
+      live_reserve opened.shape users opened.start (live_plan log_only) in
       let end : sn_of opened.start
-      + sum_over_actors left_to_reserve (live_actors opened.shape users opened.start log_only false 0)
+      + sum_over_actors left_to_reserve (live_actors opened.shape users opened.start (live_plan log_only))
       ≡ sn_of opened.start = omega arith in
       subst (λ (n : ℕ). n < LSN_LIMIT) (sym (ap lsn end ∙ lsn_at_start opened.start runnable.place)) below;
 }

@@ -43,8 +43,9 @@ use Rattle.redo_drive.proofs.StartActors.{IsNew, are_new, are_seated}
 use Rattle.redo_drive.proofs.StartWordsPages.{has_opened_pages}
 use Rattle.redo_drive.proofs.UserLines.{of_script, of_user}
 use Rattle.redo_drive.specs.Beginning.{HaveBegun}
-use Rattle.redo_drive.specs.Startable.{AreNewFollowers, HasReading}
+use Rattle.redo_drive.specs.Startable.{HasNewFollowers, HasReading}
 use Rattle.redo_drive.specs.Begins.{BeginsOn, begun_on, IsOwnOf}
+use Rattle.redo_drive.specs.LiveActors.{live_plan}
 use Rattle.redo_drive.specs.Lists.{Listings, empty_lists, lists_of}
 use Rattle.redo_drive.specs.Running.{RunOf, run_data_side, run_log_side, groups_of, RunsFromWith, RunsWith, core_of}
 use Rattle.redo_drive.specs.Receiving.{follower_of, HasGot, IsSameFollower}
@@ -54,6 +55,9 @@ use Rattle.redo_drive.specs.History.{view_of, views_of}
 use Rattle.redo_drive.specs.declared.actor.Actor as own_actor
 use Rattle.redo_drive.specs.declared.making.Beginning.{Beginning}
 use Rattle.redo_drive.specs.declared.memory.Own.{Own}
+use Rattle.redo_drive.specs.declared.plan.Plan.{Plan}
+use Rattle.redo_drive.specs.declared.seating.TheConstants.{FIRST_FOLLOWER}
+use Rattle.model_core.specs.declared.limits.TheConstants.{READERS}
 use Rattle.redo_follow.specs.Following.{Following}
 use Rattle.redo_store.specs.{IsRunnable}
 use Rattle.redo_store.specs.declared.opened.Opened.{Opened}
@@ -86,7 +90,7 @@ lines_get_bytes : (shape : Shape) (pages : List Content) (start : ℕ) (script :
 lines_get_bytes shape pages start script log_only fits user j k = elim (dec_le (length (programs_of shape log_only script user)) j) [
   | yes past ↦ subst (λ (line : Line). GetsBytes (change_at line.changes k)) (sym (get_or_past (programs_of shape log_only script user) j (record { mode = 0; bytes = []; changes = [] }) past)) (λ i. omega arith)
   | no there ↦ (
-      let is = of_script shape pages start script 0 log_only false 0 (omega arith) in
+      let is = of_script shape pages start script 0 (live_plan log_only) (omega arith) in
       let count = is.count user in
       let one = line_below (lines_of_user user script) j (omega arith) in
       subst (λ (line : Line). GetsBytes (change_at line.changes k)) (sym (is.each user j one.0 one.1)) (by log_only one.0 (of_user (LineFits shape) script user j one.0 fits one.1).0))
@@ -132,30 +136,26 @@ got_none stands None = tt
 got_none stands (Some f) = λ before is. subst (λ (l : List Given). stands f.receiver l) (sym (append-nil before)) is
 
 -- A RUN OF A SCRIPT CAN BEGIN on the store, a live one or not, with these users.
-pub record CanBegin {L D R : Type 0} (opened : Opened L D) (script : List ScriptLine) (live log_only archive : Bool)
+pub record CanBegin {L D R : Type 0} (opened : Opened L D) (script : List ScriptLine) (live : Bool) (plan : Plan)
     (followers : List (Following R)) (seat_of : ℕ → ℕ) (users : List UserState) : Type 0 where
   pub runnable : IsRunnable opened
   pub lines : AllByRecursion IsScriptLine script
   pub fits : AllByRecursion (LineFits opened.shape) script
-  pub new : AreNewFollowers opened.start followers
-  pub firsts : AreFirstUsers live (run_layout opened.shape).blocks (programs_of opened.shape log_only script) seat_of
-      users
+  pub new : HasNewFollowers plan opened.start followers
+  pub firsts : AreFirstUsers live (run_layout opened.shape).blocks (programs_of opened.shape plan.log_only script)
+      seat_of users
   -- the log has room for all that the actors may reserve
   pub room : lsn (sn_of opened.start + sum_over_actors left_to_reserve (with_others (map actor.User users) opened.shape
-      opened.start log_only archive (length followers))) < LSN_LIMIT
+      opened.start plan)) < LSN_LIMIT
 
 module _ {L D R : Type 0} (log_seen : L → Seen) (data_seen : D → Seen) (stands : R → List Given → Type 0)
-    (opened : Opened L D) (script : List ScriptLine) (live log_only archive : Bool) (followers : List (Following R))
-    (seat_of : ℕ → ℕ) (users_with : (log_only : Bool) → List UserState)
-    (can : CanBegin opened script live log_only archive followers seat_of (users_with log_only)) (own : Own R)
-    (owns : IsOwnOf opened.shape opened.pages opened.start (with_others (map actor.User (users_with log_only))
-    opened.shape opened.start log_only archive (length followers)) archive followers (length script) own) where
-  abbrev users : List UserState
-  users = users_with log_only
-
+    (opened : Opened L D) (script : List ScriptLine) (live : Bool) (plan : Plan) (followers : List (Following R))
+    (seat_of : ℕ → ℕ) (users : List UserState) (can : CanBegin opened script live plan followers seat_of users)
+    (own : Own R) (owns : IsOwnOf opened.shape opened.pages opened.start (with_others (map actor.User users)
+    opened.shape opened.start plan) plan.archive followers (length script) own) where
   -- the run
   abbrev setup : Setup
-  setup = setup_of opened.shape opened.pages opened.start script (length users) log_only archive (length followers)
+  setup = setup_of opened.shape opened.pages opened.start script (length users) plan
 
   abbrev run : RunOf L D
   run = record { setup = setup; live = live; shape = opened.shape; first_log = opened.log; first_data = opened.store }
@@ -171,6 +171,9 @@ module _ {L D R : Type 0} (log_seen : L → Seen) (data_seen : D → Seen) (stan
 
   abbrev start : Beginning L D R
   start = begun_on opened own
+
+  few : FIRST_FOLLOWER + plan.followers ≤ READERS
+  few = let all = can.new.new.few in let many = can.new.many in omega arith
 
   place : lsn setup.base ≡ opened.start
   place = lsn_at_start opened.start can.runnable.place
@@ -195,8 +198,8 @@ module _ {L D R : Type 0} (log_seen : L → Seen) (data_seen : D → Seen) (stan
   fit user k one at = (of_user (LineFits opened.shape) script user k one can.fits at).0
 
   new_actors : (seat : ℕ) (a : Actor) → get_elem? (views_of own.actors.items) seat ≡ some a → IsNew setup seat_of writer seat a
-  new_actors seat a at = are_new opened.shape opened.pages opened.start script live log_only archive (length followers)
-      can.new.few can.lines can.fits seat_of users can.firsts place seat a
+  new_actors seat a at = are_new opened.shape opened.pages opened.start script live plan
+      few can.lines can.fits seat_of users can.firsts place seat a
       (subst (λ (actors : List Actor). get_elem? actors seat ≡ some a) owns.actors at)
 
   -- and so are both parts
@@ -213,7 +216,7 @@ module _ {L D R : Type 0} (log_seen : L → Seen) (data_seen : D → Seen) (stan
   store_start : StartStore log_part data_part setup words.by_name opened.log opened.store seat_of writer (views_of own.actors.items)
   store_start = record {
     script = scripted setup script opened.shape can.runnable.limits refl refl refl (of_script opened.shape opened.pages
-        opened.start script (length users) log_only archive (length followers) can.new.few) fit;
+        opened.start script (length users) plan few) fit;
     some_page = can.runnable.limits.some_pages;
     words = words.of_log;
     page_words = words.of_pages;
@@ -240,19 +243,20 @@ module _ {L D R : Type 0} (log_seen : L → Seen) (data_seen : D → Seen) (stan
       opened.store (views_of own.actors.items)) (sym none)
       (store_starts log_part data_part setup words.by_name opened.log opened.store seat_of writer (views_of own.actors.items) store_start own.words.words words.in_order room))
 
-  runs : RunsWith log_seen data_seen run archive start.parts (views_of own.actors.items)
+  runs : RunsWith log_seen data_seen run plan.archive start.parts (views_of own.actors.items)
   runs = record {
     limits = can.runnable.limits;
     started = (let low = can.runnable.first in omega (arith, place));
     its_pages = refl;
     its_page_size = refl;
-    followers = none_archives archive;
-    bytes = record { opened = owns.bytes; cells = λ user j k i. lines_get_bytes opened.shape opened.pages opened.start script log_only can.fits user j k i };
+    followers = none_archives plan.archive;
+    bytes = record { opened = owns.bytes; cells = λ user j k i. lines_get_bytes opened.shape opened.pages opened.start
+        script plan.log_only can.fits user j k i };
     its_slots = refl;
     list_pages = ap (λ (lists : Listings). lists.pages) owns.lists;
     running = is_running;
     seated = subst (AreSeated live setup) (sym owns.actors) (are_seated opened.shape opened.pages opened.start script
-        live log_only archive (length followers) can.new.few can.lines can.fits seat_of users can.firsts);
+        live plan few can.lines can.fits seat_of users can.firsts);
   }
     where
       none_archives : (b : Bool) → cond b (Unit {0}) (0 < first_reader b)
@@ -267,7 +271,7 @@ module _ {L D R : Type 0} (log_seen : L → Seen) (data_seen : D → Seen) (stan
       let sn : W.shared.sn ≡ words.by_name.sn = ap (λ (ws : List ℕ). slice_index ws 0) words_same in
       no_log setup.base W.shared.sn W.log_ghost.log W.both.logged.global.tiled.tiles (sn ∙ words.of_log.sn)
 
-  from : RunsFromWith log_seen data_seen stands run archive own.actors.items start.parts own.actors.items
+  from : RunsFromWith log_seen data_seen stands run plan.archive own.actors.items start.parts own.actors.items
   from = record {
     runs = runs;
     count = refl;
@@ -294,9 +298,8 @@ module _ {L D R : Type 0} (log_seen : L → Seen) (data_seen : D → Seen) (stan
       }
 
   -- its parts and actors stand at the beginning of the run
-  pub begins : BeginsOn log_seen data_seen stands opened script live log_only archive followers
-      (λ (b : Bool). with_others (map actor.User (users_with b)) opened.shape opened.start b archive
-      (length followers)) start
+  pub begins : BeginsOn log_seen data_seen stands opened script live plan followers
+      (with_others (map actor.User users) opened.shape opened.start plan) start
   begins = record {
     run = run;
     is_run = record {
@@ -308,8 +311,7 @@ module _ {L D R : Type 0} (log_seen : L → Seen) (data_seen : D → Seen) (stan
       log_only_is = refl;
       first_is = refl;
       last_reader = refl;
-      of_script = of_script opened.shape opened.pages opened.start script (length users) log_only archive
-          (length followers) can.new.few;
+      of_script = of_script opened.shape opened.pages opened.start script (length users) plan few;
       its_pages = has_opened_pages setup (record { shape = opened.shape; pages = opened.pages; end = 0 }) can.runnable.limits can.runnable.its_pages (sym can.runnable.its_pages.count) refl (λ p there. refl);
     };
     at_start = record {
@@ -328,6 +330,7 @@ module _ {L D R : Type 0} (log_seen : L → Seen) (data_seen : D → Seen) (stan
       none_listed = none_at;
     };
     from = from;
+    many = can.new.many;
     followers = owns.readers;
     words = owns.first;
     log = refl;

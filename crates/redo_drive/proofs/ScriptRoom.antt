@@ -17,6 +17,7 @@ use Rattle.model_script.specs.declared.misfit.TheConstants.{MAX_USERS}
 use Rattle.model_script.specs.declared.script.ScriptLine.{ScriptLine}
 use Rattle.redo_useractor.specs.{program_lines}
 use Rattle.redo_drive.specs.declared.seating.TheConstants.{FIRST_FOLLOWER}
+use Rattle.redo_drive.specs.declared.plan.Plan.{Plan}
 use Rattle.redo_drive.specs.Setups.{followers_from, other_actors, page_actors, programs_of, readers_of, seated_actors, users_below, users_of, with_others}
 use Rattle.redo_drive.specs.LiveActors.{idle_users, live_actors}
 
@@ -99,49 +100,56 @@ users_reserve blocks programs (suc n) = by (eqb (length (programs n)) 0) (λ is.
         let last : sum_over_actors left_to_reserve (actor.User user ∷ []) ≡ lengths (programs n) = omega arith in omega arith
 
 -- the actors of the pages reserve nothing
-pages_reserve : (shape : Shape) (start : ℕ) (log_only archive : Bool) (followers : ℕ)
-    → sum_over_actors left_to_reserve (page_actors shape start log_only archive followers) ≡ 0
-pages_reserve shape start true archive followers = refl
-pages_reserve shape start false archive followers = refl
+pages_reserve : (shape : Shape) (start : ℕ) (plan : Plan)
+    → sum_over_actors left_to_reserve (page_actors shape start plan) ≡ 0
+pages_reserve shape start plan = by plan.log_only
+  where
+    by : (b : Bool) → sum_over_actors left_to_reserve (page_actors shape start (record plan { log_only = b })) ≡ 0
+    by true = refl
+    by false = refl
 
 followers_reserve : (start number followers : ℕ)
     → sum_over_actors left_to_reserve (followers_from start number followers) ≡ 0
 followers_reserve start number zero = refl
 followers_reserve start number (suc n) = let rest = followers_reserve start (number + 1) n in omega arith
 
-readers_reserve : (start : ℕ) (archive : Bool) (followers : ℕ)
-    → sum_over_actors left_to_reserve (readers_of start archive followers) ≡ 0
-readers_reserve start true followers = let rest = followers_reserve start FIRST_FOLLOWER followers in omega arith
-readers_reserve start false followers = followers_reserve start FIRST_FOLLOWER followers
+readers_reserve : (start : ℕ) (plan : Plan) → sum_over_actors left_to_reserve (readers_of start plan) ≡ 0
+readers_reserve start plan = by plan.archive
+  where
+    by : (b : Bool) → sum_over_actors left_to_reserve (readers_of start (record plan { archive = b })) ≡ 0
+    by true = let rest = followers_reserve start FIRST_FOLLOWER plan.followers in omega arith
+    by false = followers_reserve start FIRST_FOLLOWER plan.followers
 
 -- behind the users no actor reserves anything
-others_reserve : (users : List Actor) (shape : Shape) (start : ℕ) (log_only archive : Bool) (followers : ℕ)
-    → sum_over_actors left_to_reserve (with_others users shape start log_only archive followers)
+others_reserve : (users : List Actor) (shape : Shape) (start : ℕ) (plan : Plan)
+    → sum_over_actors left_to_reserve (with_others users shape start plan)
     ≡ sum_over_actors left_to_reserve users
-others_reserve users shape start log_only archive followers =
-    let others : List Actor = other_actors shape start log_only archive followers in
-    let readers : List Actor = readers_of start archive followers in
+others_reserve users shape start plan =
+    let others : List Actor = other_actors shape start plan in
+    let readers : List Actor = readers_of start plan in
     let parts = sum_append left_to_reserve (users ++ others) readers in
     let more = sum_append left_to_reserve users others in
-    let none = pages_reserve shape start log_only archive followers in
-    let nothing = readers_reserve start archive followers in omega arith
+    let none = pages_reserve shape start plan in
+    let nothing = readers_reserve start plan in omega arith
 
 -- what all actors may reserve
-pub actors_reserve : (shape : Shape) (script : List ScriptLine) (start : ℕ) (log_only archive : Bool) (followers : ℕ)
+pub actors_reserve : (shape : Shape) (script : List ScriptLine) (start : ℕ) (plan : Plan)
     → AllByRecursion (LineFits shape) script
-    → sum_over_actors left_to_reserve (seated_actors shape script start log_only archive followers) ≡ length (stream_of (map (group_of shape.space) script))
-actors_reserve shape script start log_only archive followers fits =
-    others_reserve (map actor.User (users_of shape log_only script)) shape start log_only archive followers
-    ∙ users_reserve (run_layout shape).blocks (programs_of shape log_only script) (MAX_USERS + 1)
-    ∙ all_count shape log_only script fits
+    → sum_over_actors left_to_reserve (seated_actors shape script start plan)
+    ≡ length (stream_of (map (group_of shape.space) script))
+actors_reserve shape script start plan fits =
+    others_reserve (map actor.User (users_of shape plan.log_only script)) shape start plan
+    ∙ users_reserve (run_layout shape).blocks (programs_of shape plan.log_only script) (MAX_USERS + 1)
+    ∙ all_count shape plan.log_only script fits
 
 -- and the log has room for that
-pub room_for_all : (shape : Shape) (script : List ScriptLine) (start : ℕ) (log_only archive : Bool) (followers : ℕ)
+pub room_for_all : (shape : Shape) (script : List ScriptLine) (start : ℕ) (plan : Plan)
     → AllByRecursion (LineFits shape) script → script_end shape start script < LSN_LIMIT
-    → lsn (sn_of start + sum_over_actors left_to_reserve (seated_actors shape script start log_only archive followers)) < LSN_LIMIT
-room_for_all shape script start log_only archive followers fits room =
-    let sum = actors_reserve shape script start log_only archive followers fits in
-    let end : sn_of start + sum_over_actors left_to_reserve (seated_actors shape script start log_only archive followers) ≡ sn_of start + length (stream_of (map (group_of shape.space) script)) = omega arith in
+    → lsn (sn_of start + sum_over_actors left_to_reserve (seated_actors shape script start plan)) < LSN_LIMIT
+room_for_all shape script start plan fits room =
+    let sum = actors_reserve shape script start plan fits in
+    let end : sn_of start + sum_over_actors left_to_reserve (seated_actors shape script start plan)
+        ≡ sn_of start + length (stream_of (map (group_of shape.space) script)) = omega arith in
     subst (λ (n : ℕ). lsn n < LSN_LIMIT) (sym end) (subst (λ (n : ℕ). n < LSN_LIMIT) (sym (lsn_is (sn_of start + length (stream_of (map (group_of shape.space) script))))) room)
 
 -- users that have no lines reserve nothing
@@ -154,8 +162,8 @@ idle_reserve blocks (suc n) =
     let before = idle_reserve blocks n in omega arith
 
 -- so a live run has room as it begins
-pub live_reserve : (shape : Shape) (users start : ℕ) (log_only archive : Bool) (followers : ℕ)
-    → sum_over_actors left_to_reserve (live_actors shape users start log_only archive followers) ≡ 0
-live_reserve shape users start log_only archive followers =
-    others_reserve (map actor.User (idle_users (run_layout shape).blocks users)) shape start log_only archive followers
+pub live_reserve : (shape : Shape) (users start : ℕ) (plan : Plan)
+    → sum_over_actors left_to_reserve (live_actors shape users start plan) ≡ 0
+live_reserve shape users start plan =
+    others_reserve (map actor.User (idle_users (run_layout shape).blocks users)) shape start plan
     ∙ idle_reserve (run_layout shape).blocks users

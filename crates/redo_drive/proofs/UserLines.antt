@@ -20,6 +20,7 @@ use Rattle.model_script.specs.declared.script.ScriptLine.{ScriptLine}
 use Rattle.redo_drive.specs.Setups.{first_reader, programs_of, user_lines}
 use Rattle.redo_drive.specs.StartWords.{setup_of}
 use Rattle.redo_drive.specs.declared.seating.TheConstants.{FIRST_FOLLOWER}
+use Rattle.redo_drive.specs.declared.plan.Plan.{Plan}
 use Rattle.redo_useractor.specs.{AreUserLines, IsUserLine}
 
 -- what holds of each line of a script holds of a user's, which are its own
@@ -81,17 +82,18 @@ no_program shape script lines fits log_only user outside = elim (dec_le 1 (lengt
 
 -- the users' programs are those of the script
 pub of_script : (shape : Shape) (pages : List Content) (start : ℕ) (script : List ScriptLine) (users : ℕ)
-    (log_only archive : Bool) (followers : ℕ) → FIRST_FOLLOWER + followers ≤ READERS
-    → IsOfScript (setup_of shape pages start script users log_only archive followers) script shape
-of_script shape pages start script users log_only archive followers few = record {
+    (plan : Plan) → FIRST_FOLLOWER + plan.followers ≤ READERS
+    → IsOfScript (setup_of shape pages start script users plan) script shape
+of_script shape pages start script users plan few = record {
   count = λ user. length-map (map spelled (lines_of_user user script)) program ∙ length-map (lines_of_user user script) spelled;
-  readers = in_order archive;
+  readers = in_order plan.archive;
   few_readers = few;
-  each = λ user k one at. get_or_from_slice_get (programs_of shape log_only script user) k (program (spelled one)) (record { mode = 0; bytes = []; changes = [] })
+  each = λ user k one at. get_or_from_slice_get (programs_of shape plan.log_only script user) k (program (spelled one))
+      (record { mode = 0; bytes = []; changes = [] })
       (slice_get-map program (map spelled (lines_of_user user script)) k ∙ ap (option_map program) (slice_get-map spelled (lines_of_user user script) k ∙ ap (option_map spelled) at));
 }
   where
-    in_order : (b : Bool) → first_reader b ≤ FIRST_FOLLOWER + followers
+    in_order : (b : Bool) → first_reader b ≤ FIRST_FOLLOWER + plan.followers
     in_order true = omega arith
     in_order false = omega arith
 
@@ -99,4 +101,4 @@ of_script shape pages start script users log_only archive followers few = record
     spelled one = (one.mode, group_of shape.space one)
 
     program : ℕ × List Rec → Line
-    program line = line_of log_only shape line.0 line.1
+    program line = line_of plan.log_only shape line.0 line.1

@@ -11,20 +11,22 @@ use Rattle.redo_drive.specs.Sides.{RunOf}
 use Rattle.redo_drive.specs.Setups.{first_reader, seated_actors}
 use Rattle.redo_drive.specs.StartWords.{AreStartWords}
 use Rattle.redo_drive.specs.declared.parts.Parts.{Parts}
+use Rattle.redo_drive.specs.declared.plan.Plan.{Plan}
 use Rattle.redo_drive.specs.declared.seating.TheConstants.{FIRST_FOLLOWER}
 use Rattle.redo_store.specs.declared.opened.Opened.{Opened}
 
--- The run is that of this script on this store, a live one or not, with an archiver or without, and with so many followers:
--- with its sizes, its pages and both its parts, from its start on.
-pub record IsRunWith {L D : Type 0} (opened : Opened L D) (script : List ScriptLine) (live log_only archive : Bool) (followers : ℕ) (run : RunOf L D) : Type 0 where
+-- The run is that of this script on this store, a live one or not, by this plan: with its sizes, its pages and both its parts,
+-- from its start on.
+pub record IsRunWith {L D : Type 0} (opened : Opened L D) (script : List ScriptLine) (live : Bool) (plan : Plan)
+    (run : RunOf L D) : Type 0 where
   pub shape : run.shape ≡ opened.shape
   pub first_log : run.first_log ≡ opened.log
   pub first_data : run.first_data ≡ opened.store
   pub start : lsn run.setup.base ≡ opened.start
   pub live_is : run.live ≡ live
-  pub log_only_is : run.setup.log_only ≡ log_only
-  pub first_is : run.setup.first_reader ≡ first_reader archive
-  pub last_reader : run.setup.last_reader ≡ FIRST_FOLLOWER + followers
+  pub log_only_is : run.setup.log_only ≡ plan.log_only
+  pub first_is : run.setup.first_reader ≡ first_reader plan.archive
+  pub last_reader : run.setup.last_reader ≡ FIRST_FOLLOWER + plan.followers
   pub of_script : IsOfScript run.setup script opened.shape
   pub its_pages : HasItsPages run.setup (record { shape = opened.shape; pages = opened.pages; end = 0 })
 
@@ -44,7 +46,7 @@ pub record StandsOn {L D : Type 0} (opened : Opened L D) (firsts : List Actor) (
   pub none_listed : (i : ℕ) → ◌≡◌ {A = List Listed} (lists_of parts.lists i) []
 
 -- the same of the run of a script, whose actors are new and in their seats
-abbrev pub StandsWith : {L D : Type 0} → Opened L D → (script : List ScriptLine) → (archive : Bool) → (followers : ℕ) → RunOf L D
-    → Parts L D → List Actor → Type 0
-StandsWith opened script archive followers run parts actors =
-    StandsOn opened (seated_actors opened.shape script opened.start run.setup.log_only archive followers) run parts actors
+abbrev pub StandsWith : {L D : Type 0} → Opened L D → (script : List ScriptLine) → Plan → RunOf L D → Parts L D
+    → List Actor → Type 0
+StandsWith opened script plan run parts actors =
+    StandsOn opened (seated_actors opened.shape script opened.start plan) run parts actors

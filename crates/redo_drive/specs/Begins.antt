@@ -12,6 +12,7 @@ use Rattle.redo_drive.specs.declared.actor.Actor.{Actor}
 use Rattle.redo_drive.specs.declared.actor.Actor.TheVariants as own
 use Rattle.redo_drive.specs.declared.making.Beginning.{Beginning}
 use Rattle.redo_drive.specs.declared.memory.Own.{Own}
+use Rattle.redo_drive.specs.declared.plan.Plan.{Plan}
 use Rattle.redo_follow.specs.Following.{Following}
 use Rattle.redo_store.specs.declared.opened.Opened.{Opened}
 use Rattle.redo_words.specs.{shape_layout}
@@ -22,7 +23,7 @@ use Rattle.model_store.specs.{Reading}
 use Rattle.redo_disk.specs.{Seen}
 use Rattle.redo_drive.specs.Beginning.{HaveBegun, IsRunWith, StandsOn}
 use Rattle.redo_drive.specs.Startable.{HasReading}
-use Rattle.redo_drive.specs.LiveActors.{live_actors}
+use Rattle.redo_drive.specs.LiveActors.{live_actors, live_plan}
 use Rattle.redo_drive.specs.Running.{RunOf, run_data_side, run_log_side, RunsFromWith}
 
 -- the last actors are these followers, in their order
@@ -79,17 +80,18 @@ pub record IsAtStart {L D R : Type 0} (log_seen : L → Seen) (data_seen : D →
       start.parts.log start.parts.store seat_of writer (views_of start.actors.items)
   pub none_listed : (i : ℕ) → ◌≡◌ {A = List Listed} (lists_of start.parts.lists i) []
 
--- PARTS AND ACTORS STAND AT THE BEGINNING of the run of this script on this store, a live one or not, with an archiver or
--- without, and with these followers. With the log alone or with the pages, these are the actors with which it begins.
+-- PARTS AND ACTORS STAND AT THE BEGINNING of the run of this script on this store, a live one or not, by this plan, and with
+-- these followers. These are the actors with which it begins.
 pub record BeginsOn {L D R : Type 0} (log_seen : L → Seen) (data_seen : D → Seen) (stands_for : R → List Given → Type 0) (opened : Opened L D)
-    (script : List ScriptLine) (live log_only archive : Bool) (new_followers : List (Following R)) (firsts : (log_only : Bool) → List model.Actor)
+    (script : List ScriptLine) (live : Bool) (plan : Plan) (new_followers : List (Following R)) (firsts : List model.Actor)
     (start : Beginning L D R) : Type 0 where
   pub run : RunOf L D
-  pub is_run : IsRunWith opened script live log_only archive (length new_followers) run
+  pub is_run : IsRunWith opened script live plan run
   pub at_start : IsAtStart log_seen data_seen run start
-  pub stands : StandsOn opened (firsts run.setup.log_only) run start.parts (views_of start.actors.items)
-  pub from : RunsFromWith log_seen data_seen stands_for run archive start.actors.items start.parts start.actors.items
-  pub followers : EndsWithReaders opened.start archive start.actors.items new_followers
+  pub stands : StandsOn opened firsts run start.parts (views_of start.actors.items)
+  pub from : RunsFromWith log_seen data_seen stands_for run plan.archive start.actors.items start.parts start.actors.items
+  pub many : plan.followers ≡ length new_followers
+  pub followers : EndsWithReaders opened.start plan.archive start.actors.items new_followers
   pub words : start.parts.words.words ≡ flat (first_words opened.shape.page_size opened.start opened.pages)
   pub log : start.parts.log ≡ opened.log
   pub data_part : start.parts.store ≡ opened.store
@@ -103,20 +105,21 @@ pub record BeginsOn {L D R : Type 0} (log_seen : L → Seen) (data_seen : D → 
 
 -- THE RUN OF A SCRIPT BEGINS, whose users that have lines come first.
 abbrev pub BeginsWith : {L D R : Type 0} → (L → Seen) → (D → Seen) → (R → List Given → Type 0) → Opened L D → List ScriptLine
-    → (log_only archive : Bool) → List (Following R) → Beginning L D R → Type 0
-BeginsWith log_seen data_seen stands_for opened script log_only archive followers start =
-    BeginsOn log_seen data_seen stands_for opened script false log_only archive followers
-    (λ (b : Bool). seated_actors opened.shape script opened.start b archive (length followers)) start
+    → Plan → List (Following R) → Beginning L D R → Type 0
+BeginsWith log_seen data_seen stands_for opened script plan followers start =
+    BeginsOn log_seen data_seen stands_for opened script false plan followers
+    (seated_actors opened.shape script opened.start plan) start
 
 -- A LIVE RUN BEGINS, whose users, so many, have no lines yet.
 abbrev pub BeginsLive : {L D R : Type 0} → (L → Seen) → (D → Seen) → (R → List Given → Type 0) → Opened L D → (users : ℕ)
     → (log_only : Bool) → Beginning L D R → Type 0
 BeginsLive log_seen data_seen stands_for opened users log_only start =
-    BeginsOn log_seen data_seen stands_for opened [] true log_only false []
-    (λ (b : Bool). live_actors opened.shape users opened.start b false 0) start
+    BeginsOn log_seen data_seen stands_for opened [] true (live_plan log_only) []
+    (live_actors opened.shape users opened.start (live_plan log_only)) start
 
 -- the same where nothing is archived
 abbrev pub BeginsRun : {L D R : Type 0} → (L → Seen) → (D → Seen) → (R → List Given → Type 0) → Opened L D → List ScriptLine
     → (log_only : Bool) → List (Following R) → Beginning L D R → Type 0
 BeginsRun log_seen data_seen stands_for opened script log_only followers start =
-    BeginsWith log_seen data_seen stands_for opened script log_only false followers start
+    BeginsWith log_seen data_seen stands_for opened script
+    (record { log_only = log_only; archive = false; followers = length followers }) followers start

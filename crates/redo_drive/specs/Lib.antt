@@ -20,7 +20,7 @@ pub mod StartWords
 pub mod Startable
 pub mod Steps
 pub use Rattle.redo_drive.specs.Calls.{AskOfBoth, CallOnBoth, CallsOn, HasFailedBy, call_answer}
-pub use Rattle.redo_drive.specs.Startable.{HasReading, room_from, AreNewFollowers, IsNewArchive, MayBegin}
+pub use Rattle.redo_drive.specs.Startable.{HasNewFollowers, HasReading, room_from, AreNewFollowers, IsNewArchive, MayBegin, plan_with}
 pub use Rattle.redo_drive.specs.Drive.{ComesToRun, HasMemory, HoldsRun, IsOwedSynced, Owes, closed_run}
 pub use Rattle.redo_drive.specs.Asking.{checkpoint_requests, read_requests, sync_requests, write_requests, AskOf, AskOfParts, call_code, code_of, device_code, lent_pages, lent_writes, turn_data_side, turn_log_side}
 pub use Rattle.redo_drive.specs.Archiving.{Appends, ArchivesRun, AsksUpTo, FinishesArchive, HasArchived, HasCome, HasComeTo, HasNoArchiver, HaveArchived, HoldsFrom, IsBeside, IsReadBack, IsSameArchive, StandsBeside}

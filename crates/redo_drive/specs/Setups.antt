@@ -13,6 +13,7 @@ use Rattle.model_log.specs.declared.rec.Rec.{Rec}
 use Rattle.model_script.specs.{group_of}
 use Rattle.model_script.specs.declared.misfit.TheConstants.{MAX_USERS}
 use Rattle.model_script.specs.declared.script.ScriptLine.{ScriptLine}
+use Rattle.redo_drive.specs.declared.plan.Plan.{Plan}
 use Rattle.redo_drive.specs.declared.seating.TheConstants.{FIRST_FOLLOWER}
 
 unfoldable pub zeros : ℕ → List ℕ
@@ -95,30 +96,27 @@ abbrev pub first_reader : (archive : Bool) → ℕ
 first_reader true = 0
 first_reader false = FIRST_FOLLOWER
 
--- the readers of the log: the archiver, if the run is archived, and so many followers
-abbrev pub readers_of : (start : ℕ) → (archive : Bool) → (followers : ℕ) → List Actor
-readers_of start true followers = actor.Reader (new_reader 0 start) ∷ followers_from start FIRST_FOLLOWER followers
-readers_of start false followers = followers_from start FIRST_FOLLOWER followers
+-- the readers of the log: the archiver, if the run is archived, and the followers
+abbrev pub readers_of : (start : ℕ) → Plan → List Actor
+readers_of start plan = let all : List Actor = followers_from start FIRST_FOLLOWER plan.followers in
+    cond plan.archive (actor.Reader (new_reader 0 start) ∷ all) all
 
 -- the actors of the pages; where the log runs alone there are none
-abbrev pub page_actors : Shape → (start : ℕ) → (log_only archive : Bool) → (followers : ℕ) → List Actor
-page_actors shape start true archive followers = []
-page_actors shape start false archive followers =
-    actor.Closer new_closer ∷ actor.Cleaner (new_cleaner shape.pages shape.page_size shape.slots)
-    ∷ actor.Checkpointer (new_checkpointer start (first_reader archive) (FIRST_FOLLOWER + followers)) ∷ []
+abbrev pub page_actors : Shape → (start : ℕ) → Plan → List Actor
+page_actors shape start plan = cond plan.log_only []
+    (actor.Closer new_closer ∷ actor.Cleaner (new_cleaner shape.pages shape.page_size shape.slots)
+    ∷ actor.Checkpointer (new_checkpointer start (first_reader plan.archive) (FIRST_FOLLOWER + plan.followers)) ∷ [])
 
 -- the actors behind the users, before the readers of the log
-abbrev pub other_actors : Shape → (start : ℕ) → (log_only archive : Bool) → (followers : ℕ) → List Actor
-other_actors shape start log_only archive followers =
-    actor.Writer (new_writer (run_layout shape).blocks start) ∷ actor.Flusher (new_flusher start)
-    ∷ page_actors shape start log_only archive followers
+abbrev pub other_actors : Shape → (start : ℕ) → Plan → List Actor
+other_actors shape start plan = actor.Writer (new_writer (run_layout shape).blocks start)
+    ∷ actor.Flusher (new_flusher start) ∷ page_actors shape start plan
 
 -- all actors in their seats, with nothing done: behind these users the others, and the readers of the log come last
-abbrev pub with_others : (users : List Actor) → Shape → (start : ℕ) → (log_only archive : Bool) → (followers : ℕ) → List Actor
-with_others users shape start log_only archive followers =
-    (users ++ other_actors shape start log_only archive followers) ++ readers_of start archive followers
+abbrev pub with_others : (users : List Actor) → Shape → (start : ℕ) → Plan → List Actor
+with_others users shape start plan = (users ++ other_actors shape start plan) ++ readers_of start plan
 
 -- the actors of the run of a script in their seats, with nothing done
-abbrev pub seated_actors : Shape → List ScriptLine → (start : ℕ) → (log_only archive : Bool) → (followers : ℕ) → List Actor
-seated_actors shape script start log_only archive followers =
-    with_others (map actor.User (users_of shape log_only script)) shape start log_only archive followers
+abbrev pub seated_actors : Shape → List ScriptLine → (start : ℕ) → Plan → List Actor
+seated_actors shape script start plan =
+    with_others (map actor.User (users_of shape plan.log_only script)) shape start plan

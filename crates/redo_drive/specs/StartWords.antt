@@ -10,6 +10,7 @@ use Rattle.model_page.specs.declared.content.Content.{Content}
 use Rattle.model_base.specs.declared.shape.Shape.{Shape}
 use Rattle.model_script.specs.declared.script.ScriptLine.{ScriptLine}
 use Rattle.redo_drive.specs.Setups.{first_places, page_cells, first_reader, programs_of}
+use Rattle.redo_drive.specs.declared.plan.Plan.{Plan}
 use Rattle.redo_drive.specs.declared.seating.TheConstants.{FIRST_FOLLOWER}
 use Rattle.redo_words.specs.Plain.{Plain}
 
@@ -77,23 +78,23 @@ IsBlankFrame page m = (i : ℕ) → slice_index (page_words_at m.page_words page
 abbrev pub seats_before : (users : ℕ) → (log_only : Bool) → ℕ
 seats_before users log_only = users + (if log_only then 2 else 5)
 
--- The run of a script on these pages of a store, with so many users, with the log alone or with the pages, with an archiver or
--- without, and with so many followers, which starts at this lsn. The closer, the cleaner and the checkpointer have their seats
--- after the users, the writer and the flusher, and the readers of the log theirs at the end.
-abbrev pub setup_of : Shape → List Content → (start : ℕ) → List ScriptLine → (users : ℕ) → (log_only archive : Bool) → (followers : ℕ) → Setup
-setup_of shape pages start script users log_only archive followers = record {
+-- The run of a script on these pages of a store, with so many users and by this plan, which starts at this lsn. The closer, the
+-- cleaner and the checkpointer have their seats after the users, the writer and the flusher, and the readers of the log theirs
+-- at the end.
+abbrev pub setup_of : Shape → List Content → (start : ℕ) → List ScriptLine → (users : ℕ) → Plan → Setup
+setup_of shape pages start script users plan = record {
   base = sn_of start;
   blocks = (run_layout shape).blocks;
   pages = shape.pages;
   page_size = shape.page_size;
   slots = shape.slots;
-  log_only = log_only;
-  script = programs_of shape log_only script;
+  log_only = plan.log_only;
+  script = programs_of shape plan.log_only script;
   opened = opened_page shape pages;
   closer = users + 2;
   cleaner = users + 3;
   checkpointer = users + 4;
-  first_reader = first_reader archive;
-  last_reader = FIRST_FOLLOWER + followers;
-  reader_at = λ number. seats_before users log_only + (number - first_reader archive);
+  first_reader = first_reader plan.archive;
+  last_reader = FIRST_FOLLOWER + plan.followers;
+  reader_at = λ number. seats_before users plan.log_only + (number - first_reader plan.archive);
 }

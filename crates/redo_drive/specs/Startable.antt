@@ -1,5 +1,5 @@
 -- A store on which a run may begin.
-use Rattle.std.specs.Prelude.{Bool, List, length, None, Option, Some, if◌then◌else◌, ℕ, ◌+◌, ◌-◌, ◌≡◌, ◌≤◌}
+use Rattle.std.specs.Prelude.{Bool, List, is_some, length, None, Option, Some, if◌then◌else◌, ℕ, ◌+◌, ◌-◌, ◌≡◌, ◌≤◌}
 use Rattle.std.specs.List.{AllByRecursion}
 use lib.ListN.{get_elem?}
 use mathlib.Core.Option.{some}
@@ -15,6 +15,7 @@ use Rattle.model_script.specs.declared.script.ScriptLine.{ScriptLine}
 use Rattle.model_store.specs.{Reading}
 use Rattle.redo_archive.specs.Part.{Part}
 use Rattle.redo_disk.specs.{Seen}
+use Rattle.redo_drive.specs.declared.plan.Plan.{Plan}
 use Rattle.redo_drive.specs.declared.seating.TheConstants.{FIRST_FOLLOWER}
 use Rattle.redo_follow.specs.Following.{Following}
 use Rattle.redo_store.specs.{IsRunnable}
@@ -35,6 +36,16 @@ pub record AreNewFollowers {R : Type 0} (start : ℕ) (followers : List (Followi
   pub few : FIRST_FOLLOWER + length followers ≤ READERS
   pub each : (i : ℕ) (follower : Following R) → get_elem? followers i ≡ some follower
       → follower.state ≡ new_reader (FIRST_FOLLOWER + i) start
+
+-- the plan of a run with this archive or none, and with these followers
+abbrev pub plan_with : {A R : Type 0} → (log_only : Bool) → Option A → List R → Plan
+plan_with log_only archive followers =
+    record { log_only = log_only; archive = is_some archive; followers = length followers }
+
+-- These are the plan's followers, newly made for a run that starts at this lsn.
+pub record HasNewFollowers {R : Type 0} (plan : Plan) (start : ℕ) (followers : List (Following R)) : Type 0 where
+  pub new : AreNewFollowers start followers
+  pub many : plan.followers ≡ length followers
 
 -- This is an archive for the run of the script on the store: newly begun where the run starts, of the store's shape, on a
 -- device that has room for the whole run.

@@ -17,6 +17,7 @@ mod log_laws;
 mod making;
 mod memory;
 mod parts;
+mod plan;
 mod seating;
 mod start_words;
 mod users;
@@ -35,4 +36,5 @@ pub use log_laws::{
 };
 pub use making::{Beginning, begin_run, begin_run_with};
 pub use parts::Parts;
+pub use plan::Plan;
 pub use seating::FIRST_FOLLOWER;

@@ -3,11 +3,12 @@ ghost use Rattle.std.specs.Prelude.{◌≡◌, ◌≤◌, ◌<◌, IfErr, IfOk, 
 ghost use Rattle.model_base.specs.declared.limits.TheConstants.{LSN_LIMIT};
 ghost use Rattle.model_script.specs.declared.misfit.TheConstants.{MAX_USERS};
 ghost use Rattle.redo_drive.specs.Begins.{BeginsLive, IsOwnOf};
-ghost use Rattle.redo_drive.specs.LiveActors.{live_actors};
+ghost use Rattle.redo_drive.specs.LiveActors.{live_actors, live_plan};
 ghost use Rattle.redo_store.specs.{IsRunnable};
 
 use crate::making::{Beginning, begin_on};
 use crate::memory::{Own, make_own};
+use crate::plan::Plan;
 use crate::users::seat_idle;
 use redo_disk::Sectors;
 use redo_follow::Receiver;
@@ -24,8 +25,13 @@ fn make_own_live<L: Sectors, D: Sectors, R: Receiver + Drop>(
 ) -> Result<Own<R>, NoMemory>
     requires runnable { IsRunnable opened.now }
     requires most { users ≤ MAX_USERS }
-    ensures { IfOk result (IsOwnOf opened.now.shape opened.now.pages opened.now.start (live_actors opened.now.shape users opened.now.start log_only false 0) false [] 0) }
+    ensures { IfOk result (IsOwnOf opened.now.shape opened.now.pages opened.now.start (live_actors opened.now.shape users opened.now.start (live_plan log_only)) false [] 0) }
 {
+    let plan = Plan {
+        log_only,
+        archive: false,
+        followers: 0,
+    };
     let idle = seat_idle(alloc, users, &opened.shape, log_only)?;
     let followers = Vec::new(alloc);
     make_own(
@@ -34,8 +40,7 @@ fn make_own_live<L: Sectors, D: Sectors, R: Receiver + Drop>(
         &opened.pages,
         opened.start,
         idle,
-        log_only,
-        false,
+        plan,
         followers,
         0,
     )

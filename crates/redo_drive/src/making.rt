@@ -1,12 +1,13 @@
 // A run as it begins.
 ghost use Rattle.std.specs.Prelude.{◌≡◌, IfErr, IfOk, length};
-ghost use Rattle.redo_drive.specs.Startable.{AreNewFollowers, MayBegin};
+ghost use Rattle.redo_drive.specs.Startable.{AreNewFollowers, HasNewFollowers, MayBegin};
 ghost use Rattle.redo_drive.specs.Begins.{BeginsRun, BeginsWith, BeginsSo, IsOwnOf};
 ghost use Rattle.redo_drive.specs.Setups.{seated_actors};
 
 use crate::actor::Actor;
 use crate::memory::{Own, make_own};
 use crate::parts::Parts;
+use crate::plan::Plan;
 use crate::users::seat_users;
 use model_report::Entry;
 use model_script::Script;
@@ -16,30 +17,27 @@ use redo_lsn::NoMemory;
 use redo_store::Opened;
 use std::alloc::Global;
 
-/// Takes all the memory of the run of a script.
+/// Takes all the memory of the run of a script by this plan.
 fn make_own_of<L: Sectors, D: Sectors, R: Receiver + Drop>(
     alloc: Global,
     opened: &Opened<L, D>,
     script: &Script,
-    log_only: bool,
-    archive: bool,
+    plan: Plan,
     followers: Vec<Follower<R>>,
 ) -> Result<Own<R>, NoMemory>
-    requires may { MayBegin opened.now script.now log_only }
-    requires new { AreNewFollowers opened.now.start followers.items }
-    ensures { IfOk result (IsOwnOf opened.now.shape opened.now.pages opened.now.start (seated_actors opened.now.shape script.now opened.now.start log_only archive (length followers.items)) archive followers.items (length script.now)) }
+    requires may { MayBegin opened.now script.now plan.log_only }
+    requires new { HasNewFollowers plan opened.now.start followers.items }
+    ensures { IfOk result (IsOwnOf opened.now.shape opened.now.pages opened.now.start (seated_actors opened.now.shape script.now opened.now.start plan) plan.archive followers.items (length script.now)) }
 {
-    let count = followers.len() as u32;
     let lines = script.0.as_slice();
-    let users = seat_users(alloc, lines, &opened.shape, log_only, count)?;
+    let users = seat_users(alloc, lines, &opened.shape, plan)?;
     make_own(
         alloc,
         &opened.shape,
         &opened.pages,
         opened.start,
         users,
-        log_only,
-        archive,
+        plan,
         followers,
         lines.len(),
     )
@@ -102,23 +100,27 @@ pub fn begin_run<L: Sectors, D: Sectors, R: Receiver + Drop>(
     ensures err { IfErr result (λ error. (error.1 ≡ opened.log.dev) × (error.2 ≡ opened.store.dev)) }
     ensures begins { IfOk result (BeginsRun L.seen D.seen R.stands_for opened script.now log_only followers.items) }
 {
-    begin_run_with(alloc, opened, script, log_only, false, followers)
+    let plan = Plan {
+        log_only,
+        archive: false,
+        followers: followers.len() as u64,
+    };
+    begin_run_with(alloc, opened, script, plan, followers)
 }
 
-/// The same with an archiver, or without.
+/// The same by a plan, with an archiver or without.
 pub fn begin_run_with<L: Sectors, D: Sectors, R: Receiver + Drop>(
     alloc: Global,
     opened: Opened<L, D>,
     script: &Script,
-    log_only: bool,
-    archive: bool,
+    plan: Plan,
     followers: Vec<Follower<R>>,
 ) -> Result<Beginning<L, D, R>, (NoMemory, L, D)>
-    requires may { MayBegin opened script.now log_only }
-    requires new { AreNewFollowers opened.start followers.items }
+    requires may { MayBegin opened script.now plan.log_only }
+    requires new { HasNewFollowers plan opened.start followers.items }
     ensures err { IfErr result (λ error. (error.1 ≡ opened.log.dev) × (error.2 ≡ opened.store.dev)) }
-    ensures begins { IfOk result (BeginsWith L.seen D.seen R.stands_for opened script.now log_only archive followers.items) }
+    ensures begins { IfOk result (BeginsWith L.seen D.seen R.stands_for opened script.now plan followers.items) }
 {
-    let own = make_own_of(alloc, &opened, script, log_only, archive, followers);
+    let own = make_own_of(alloc, &opened, script, plan, followers);
     begin_on(opened, own)
 }

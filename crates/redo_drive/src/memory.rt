@@ -1,5 +1,5 @@
 // What a run takes memory for.
-ghost use Rattle.std.specs.Prelude.{◌≤◌, ◌<◌, ◌+◌, ◌^◌, IfOk, length};
+ghost use Rattle.std.specs.Prelude.{◌≤◌, ◌<◌, ◌+◌, ◌^◌, IfOk};
 ghost use Rattle.model_base.specs.{IsWithinLimits};
 ghost use Rattle.model_base.specs.declared.limits.TheConstants.{START_LSN};
 ghost use Rattle.model_log.specs.{IsAtDataStart};
@@ -7,11 +7,12 @@ ghost use Rattle.model_log.specs.declared.layout.TheConstants.{BLOCK_HEADER};
 ghost use Rattle.redo_apply.specs.{ArePagesOf};
 ghost use Rattle.redo_drive.specs.Begins.{IsOwnOf};
 ghost use Rattle.redo_drive.specs.Setups.{with_others};
-ghost use Rattle.redo_drive.specs.Startable.{AreNewFollowers};
+ghost use Rattle.redo_drive.specs.Startable.{HasNewFollowers};
 ghost use Rattle.redo_drive.specs.History.{views_of};
 
 use crate::actor::Actor;
 use crate::lists::FlushLists;
+use crate::plan::Plan;
 use crate::seating::seat_behind;
 use crate::start_words::start_words;
 use model_base::Shape;
@@ -31,15 +32,14 @@ pub struct Own<R: Receiver> {
     pub entries: Vec<Entry>,
 }
 
-/// Takes all the memory of a run of these users, with room for so many entries.
+/// Takes all the memory of a run of these users by this plan, with room for so many entries.
 pub fn make_own<R: Receiver + Drop>(
     alloc: Global,
     shape: &Shape,
     pages: &Pages,
     start: u64,
     users: Vec<Actor<R>>,
-    log_only: bool,
-    archive: bool,
+    plan: Plan,
     followers: Vec<Follower<R>>,
     lines: usize,
 ) -> Result<Own<R>, NoMemory>
@@ -48,12 +48,12 @@ pub fn make_own<R: Receiver + Drop>(
     requires place { IsAtDataStart start }
     requires first { START_LSN + BLOCK_HEADER ≤ start }
     requires small { start < 2 ^ 61 }
-    requires new { AreNewFollowers start followers.items }
-    ensures { IfOk result (IsOwnOf shape.now pages.now start (with_others (views_of users.items) shape.now start log_only archive (length followers.items)) archive followers.items lines) }
+    requires new { HasNewFollowers plan start followers.items }
+    ensures { IfOk result (IsOwnOf shape.now pages.now start (with_others (views_of users.items) shape.now start plan) plan.archive followers.items lines) }
 {
     let words = start_words(alloc, shape, pages, start)?;
     let lists = FlushLists::new(alloc, shape.pages)?;
-    let actors = seat_behind(alloc, users, shape, start, log_only, archive, followers)?;
+    let actors = seat_behind(alloc, users, shape, start, plan, followers)?;
     let entries = Vec::with_capacity(alloc, lines)?;
     Ok(Own {
         words,

@@ -13,6 +13,7 @@ ghost use Rattle.redo_drive.specs.History.{views_of};
 ghost use Rattle.redo_drive.specs.declared.seating.TheConstants.{FIRST_FOLLOWER};
 
 use crate::actor::Actor;
+use crate::plan::Plan;
 use model_base::Shape;
 use model_log::Group;
 use model_script::{MAX_USERS, ScriptLine};
@@ -43,25 +44,24 @@ fn lines_of(
     Ok(lines)
 }
 
-/// The users that have lines, by their numbers, with room for the other actors, so many followers among them.
+/// The users that have lines, by their numbers, with room for the other actors, the plan's followers among them.
 pub fn seat_users<R: Receiver + Drop>(
     alloc: Global,
     script: &[ScriptLine],
     shape: &Shape,
-    log_only: bool,
-    followers: u32,
+    plan: Plan,
 ) -> Result<Vec<Actor<R>>, NoMemory>
     requires limits { IsWithinLimits shape.now }
     requires lines { AllByRecursion IsScriptLine script.now }
     requires fits { AllByRecursion (LineFits shape.now) script.now }
-    requires few { FIRST_FOLLOWER + followers ≤ READERS }
-    ensures { IfOk result (λ actors. views_of actors.items ≡ map actor.User (users_of shape.now log_only script.now)) }
+    requires few { FIRST_FOLLOWER + plan.followers ≤ READERS }
+    ensures { IfOk result (λ actors. views_of actors.items ≡ map actor.User (users_of shape.now plan.log_only script.now)) }
 {
-    let mut actors = Vec::with_capacity(alloc, MOST_ACTORS + followers as usize)?;
+    let mut actors = Vec::with_capacity(alloc, MOST_ACTORS + plan.followers as usize)?;
     for user in 1..MAX_USERS + 1 {
         let lines = lines_of(alloc, script, user, shape.space)?;
         if !lines.is_empty() {
-            let actor = UserActor::new(alloc, user, lines, shape, log_only)?;
+            let actor = UserActor::new(alloc, user, lines, shape, plan.log_only)?;
             actors.push(Actor::User(actor))?;
         }
     }

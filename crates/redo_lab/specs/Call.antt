@@ -243,7 +243,8 @@ abbrev pub TellsOf : {L D : Type 0} → (threads own_writes : Bool) → (L → S
     → Drive → OpenedStore (Fused L) (Fused D) → List ScriptLine → List model.Actor → Driven (Fused L) (Fused D) → Type 0
 TellsOf false own_writes log_seen log_gives data_seen data_gives drive store script actors driven =
     RunsByTurns (seen_through log_seen) (CallsThrough log_seen log_gives) (seen_through data_seen) (CallsThrough data_seen data_gives)
-    own_writes store script (turns_of drive) drive.archive drive.followers actors driven
+    own_writes store script (turns_of drive)
+    (record { log_only = drive.log_only; archive = drive.archive; followers = drive.followers }) actors driven
 TellsOf true own_writes log_seen log_gives data_seen data_gives drive store script actors driven =
     RunsInThreads store script drive.log_only actors driven
 

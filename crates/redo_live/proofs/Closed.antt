@@ -210,7 +210,7 @@ module _ {L D : Type 0} (store : Store L D) (users : List (User L D)) (workers :
   pub leaves_so : (log_seen : L → Seen) (log_gives : L → Call → L → Type 0) (data_seen : D → Seen)
       (data_gives : D → Call → D → Type 0) (left : Left L D)
       → LeavesGiven log_seen log_gives data_seen data_gives (opened_of store.shared)
-      store.shared.board.shared.key.log_only (user_count store.shared) seats players left
+      store.shared.board.shared.key.plan.log_only (user_count store.shared) seats players left
       → LeavesStore log_seen log_gives data_seen data_gives store users left
   leaves_so log_seen log_gives data_seen data_gives left given = record {
     actors = given.actors;

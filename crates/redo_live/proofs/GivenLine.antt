@@ -22,18 +22,18 @@ use Rattle.redo_rule.specs.declared.law.View.{View}
 
 -- the line as its user runs it, by what the store has
 same_line : {L D : Type 0} (about : About L D) (line : ScriptLine) (group : List Rec) (shape : Shape) (log_only : Bool)
-    → about.opened.value.shape ≡ shape → about.log_only ≡ log_only
+    → about.opened.value.shape ≡ shape → about.plan.log_only ≡ log_only
     → ◌≡◌ {A = List Rec} group (group_of about.opened.value.shape.space line)
     → line_of log_only shape line.mode group ≡ line_about about line
 same_line about line group shape log_only shape_is only_is group_is =
     ap (λ (s : Shape). line_of log_only s line.mode group) (sym shape_is)
     ∙ ap (λ (b : Bool). line_of b about.opened.value.shape line.mode group) (sym only_is)
-    ∙ ap (λ (recs : List Rec). line_of about.log_only about.opened.value.shape line.mode recs) group_is
+    ∙ ap (λ (recs : List Rec). line_of about.plan.log_only about.opened.value.shape line.mode recs) group_is
 
 module _ {L D R : Type 0} (table : TableId) (about : About L D) (u : UserState) (line : ScriptLine) (group : List Rec)
     (shape : Shape) (log_only : Bool) (old new : Seat (Slot L D) (View L D)) (p q : Player R)
     (may : MayGive table about u line group old p) (shape_is : about.opened.value.shape ≡ shape)
-    (only_is : about.log_only ≡ log_only)
+    (only_is : about.plan.log_only ≡ log_only)
     (plays : IsPlayedBy (with_line u (line_of log_only shape line.mode group)) q)
     (of : new.table_id ≡ old.table_id) (given : handed_in (line_about about line) old.me 0 new.me) where
   its_line : IsPlayedBy (with_line u (line_about about line)) q

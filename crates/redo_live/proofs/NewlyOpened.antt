@@ -18,7 +18,7 @@ use Rattle.model_logcore.specs.{lengths}
 use Rattle.model_running.specs.Schedule.{HasEnded}
 use Rattle.model_script.specs.declared.misfit.TheConstants.{MAX_USERS}
 use Rattle.redo_drive.proofs.Viewed.{length_views}
-use Rattle.redo_drive.specs.LiveActors.{idle_users, live_actors}
+use Rattle.redo_drive.specs.LiveActors.{idle_users, live_actors, live_plan}
 use Rattle.redo_drive.specs.Setups.{other_actors}
 use Rattle.redo_drive.specs.History.{view_of}
 use Rattle.redo_drive.specs.declared.actor.Actor.{Actor}
@@ -65,15 +65,15 @@ idle_there blocks (suc n) i low = elim (ℕ_discrete i n) [
 
 -- so do they among the actors
 idle_actor : (shape : Shape) (users start : ℕ) (log_only : Bool) (i : ℕ) → i < users
-    → get_elem? (live_actors shape users start log_only false 0) i
+    → get_elem? (live_actors shape users start (live_plan log_only)) i
     ≡ maybe.some (model.User (new_user (i + 1) (run_layout shape).blocks []))
 idle_actor shape users start log_only i low =
     let blocks = (run_layout shape).blocks in
     let idle : List UserState = idle_users blocks users in
     let one : UserState = new_user (i + 1) blocks [] in
     let here = at_map model.User idle i one (idle_there blocks users i low) in
-    at_longer (map model.User idle ++ other_actors shape start log_only false 0) [] i (model.User one)
-    (at_longer (map model.User idle) (other_actors shape start log_only false 0) i (model.User one) here)
+    at_longer (map model.User idle ++ other_actors shape start (live_plan log_only)) [] i (model.User one)
+    (at_longer (map model.User idle) (other_actors shape start (live_plan log_only)) i (model.User one) here)
 
 -- behind so many users of whom none has the number stands none
 behind_users : (us : List UserState) (rest : List model.Actor) → ((j : ℕ) (u : UserState)
@@ -85,7 +85,7 @@ behind_users (x ∷ us) rest none (suc i) u far at = behind_users us rest none i
 
 -- none of the others is a user
 other_user : (shape : Shape) (start : ℕ) (log_only : Bool) (j : ℕ) (u : UserState)
-    → get_elem? (other_actors shape start log_only false 0) j ≡ maybe.some (model.User u) → ⊥
+    → get_elem? (other_actors shape start (live_plan log_only)) j ≡ maybe.some (model.User u) → ⊥
 other_user shape start log_only zero u at = absurd (cc)
 other_user shape start log_only (suc zero) u at = absurd (cc)
 other_user shape start true (suc (suc j)) u at = maybe.some-ne-none (model.User u) (sym at)
@@ -95,12 +95,13 @@ other_user shape start false (suc (suc (suc (suc zero)))) u at = absurd (cc)
 other_user shape start false (suc (suc (suc (suc (suc j))))) u at = maybe.some-ne-none (model.User u) (sym at)
 
 no_idle_user : (shape : Shape) (users start : ℕ) (log_only : Bool) (i : ℕ) (u : UserState) → users ≤ i
-    → get_elem? (live_actors shape users start log_only false 0) i ≡ maybe.some (model.User u) → ⊥
+    → get_elem? (live_actors shape users start (live_plan log_only)) i ≡ maybe.some (model.User u) → ⊥
 no_idle_user shape users start log_only i u far at =
     let blocks = (run_layout shape).blocks in
     let m = many_idle blocks users in
-    let all : List model.Actor = map model.User (idle_users blocks users) ++ other_actors shape start log_only false 0 in
-    behind_users (idle_users blocks users) (other_actors shape start log_only false 0)
+    let all : List model.Actor = map model.User (idle_users blocks users) ++ other_actors shape start
+        (live_plan log_only) in
+    behind_users (idle_users blocks users) (other_actors shape start (live_plan log_only))
     (other_user shape start log_only) i u (omega arith)
     (ap (λ (l : List model.Actor). get_elem? l i) (sym (append-nil all)) ∙ at)
 
@@ -156,7 +157,7 @@ module _ {L D : Type 0} (opened : Opened L D) (live : Live) (log_only : Bool) (b
               (maybe.some-injective (view_of (actor_of p)) (model.User (idle_at plan (0 + i)))
               (sym (at_map view_of (map actor_of players) i (actor_of p) (at_map actor_of players i p bt))
               ∙ ap (λ (l : List model.Actor). get_elem? l i) new.actors_are
-              ∙ ap (get_elem? (live_actors opened.shape live.users opened.start log_only false 0)) n
+              ∙ ap (get_elem? (live_actors opened.shape live.users opened.start (live_plan log_only))) n
               ∙ idle_actor opened.shape live.users opened.start log_only (0 + i) low));
           no_user = λ far u plays. no_idle_user opened.shape live.users opened.start log_only i u (omega arith)
               (ap (λ (l : List model.Actor). get_elem? l i) (sym new.actors_are)
@@ -181,6 +182,10 @@ module _ {L D : Type 0} (opened : Opened L D) (live : Live) (log_only : Bool) (b
     live_is = ap (λ (s : Shared L D Tally). s.board.shared.key.live) shared_is
         ∙ ap (λ b. b.shared.key.live) same ∙ new.is_live
 
+    planned : store.shared.board.shared.key.plan ≡ live_plan log_only
+    planned = ap (λ (s : Shared L D Tally). s.board.shared.key.plan) shared_is
+        ∙ ap (λ b. b.shared.key.plan) same ∙ new.plan_is
+
     -- THE STORE IS OPEN
     is_open : IsOpen store
     is_open = record {
@@ -190,16 +195,12 @@ module _ {L D : Type 0} (opened : Opened L D) (live : Live) (log_only : Bool) (b
         is_live = live_is;
         no_script = ap (λ (s : Shared L D Tally). s.board.shared.key.script.value) shared_is
             ∙ ap (λ b. b.shared.key.script.value) same ∙ new.no_script;
-        apart = ap (λ (s : Shared L D Tally). s.board.shared.key.archive) shared_is
-            ∙ ap (λ b. b.shared.key.archive) same ∙ new.archive_is;
-        alone = ap (λ (s : Shared L D Tally). s.board.shared.key.followers) shared_is
-            ∙ ap (λ b. b.shared.key.followers) same ∙ new.followers_are;
+        plan_is = planned ∙ ap live_plan (sym (ap (λ p. p.log_only) planned));
       };
       quota_is = quota_is;
       quota_small = quota_small;
       plain = ap (λ (s : Shared L D Tally). own_of s) shared_is ∙ own_none;
-      log_only_is = only_is ∙ sym (ap (λ (s : Shared L D Tally). s.board.shared.key.log_only) shared_is
-          ∙ ap (λ b. b.shared.key.log_only) same ∙ new.log_only_is);
+      log_only_is = only_is ∙ sym (ap (λ p. p.log_only) planned);
       shape_is = shape_is ∙ sym (ap (λ (s : Shared L D Tally). (opened_of s).shape) shared_is
           ∙ ap (λ b. b.shared.key.opened.value.shape) same
           ∙ ap (λ (o : Opened L D). o.shape) new.opened_is);

@@ -63,7 +63,7 @@ module _ {L D : Type 0} where
     pub quota_is : store.quota ≡ alive.live.quota
     pub quota_small : store.quota < 2 ^ 64
     pub plain : own_of store.shared ≡ false
-    pub log_only_is : store.log_only ≡ (about_of store).log_only
+    pub log_only_is : store.log_only ≡ (about_of store).plan.log_only
     pub shape_is : store.shape ≡ shape_of store
     pub limits : IsWithinLimits store.shape
     pub layout_is : ◌≡◌ {A = Layout} store.shared.layout (shape_layout (shape_of store))

@@ -58,7 +58,7 @@ pub(crate) fn give_line<L: Sectors, D: Sectors>(
     log_only: bool,
 ) -> Result<(), NoMemory>
     requires limits { IsWithinLimits shape.now }
-    requires key { (table.now.key.opened.value.shape ≡ shape.now) × (table.now.key.log_only ≡ log_only) }
+    requires key { (table.now.key.opened.value.shape ≡ shape.now) × (table.now.key.plan.log_only ≡ log_only) }
     requires may { (u : UserState) × MayGive table.now.table_id table.now.key u line.now group seat.old player.old }
     ensures ok { OnOk result ((u : UserState) → MayGive table.now.table_id table.now.key u line.now group seat.old player.old
         → HasLine table.now.table_id table.now.key u line.now seat.old seat.new player.new) }

@@ -5,7 +5,7 @@ ghost use Rattle.model_base.specs.declared.limits.TheConstants.{LSN_LIMIT};
 ghost use Rattle.model_log.specs.{IsAtDataStart, sn_of};
 ghost use Rattle.model_log.specs.declared.layout.TheConstants.{BLOCK_HEADER};
 ghost use Rattle.model_script.specs.declared.misfit.TheConstants.{MAX_USERS};
-ghost use Rattle.redo_drive.specs.LiveActors.{live_actors};
+ghost use Rattle.redo_drive.specs.LiveActors.{live_actors, live_plan};
 ghost use Rattle.redo_live.specs.Quota.{last_sn, share_of};
 
 use model_base::{LSN_LIMIT, Shape};
@@ -20,7 +20,7 @@ const LAST_SN: u64 = 1_116_892_707_587_883_007;
 /// closer, the cleaner and the checkpointer.
 pub(crate) fn actor_count(users: u32, log_only: bool) -> u32
     requires { users ≤ MAX_USERS }
-    ensures count { (shape : Shape) (start : ℕ) → result ≡ length (live_actors shape users start log_only false 0) }
+    ensures count { (shape : Shape) (start : ℕ) → result ≡ length (live_actors shape users start (live_plan log_only)) }
     ensures some { 0 < result }
 {
     if log_only { users + 2 } else { users + 5 }

@@ -31,6 +31,7 @@ use Rattle.redo_drive.specs.LogPartSide as log_part
 use Rattle.redo_drive.specs.{RunOf, run_data_side, run_log_side, core_of, MayBegin, room_from, views_of}
 use Rattle.redo_drive.specs.Setups.{programs_of, seated_actors, user_of, users_below, users_of}
 use Rattle.redo_drive.specs.declared.making.Beginning.{Beginning}
+use Rattle.redo_drive.specs.declared.plan.Plan.{Plan}
 use Rattle.redo_follow.specs.Following.{Following}
 use Rattle.redo_store.specs.declared.opened.Opened.{Opened}
 
@@ -86,26 +87,28 @@ of_actor c seat_of writer seat (actor.Reader t) h = omega arith
 
 -- WHAT THE LINES COME TO ends where the script does.
 module _ {L D R : Type 0} (log_seen : L → Seen) (data_seen : D → Seen) (stands : R → List Given → Type 0)
-    (opened : Opened L D) (script : List ScriptLine) (log_only archive : Bool) (followers : List (Following R))
+    (opened : Opened L D) (script : List ScriptLine) (plan : Plan) (followers : List (Following R))
     (start : Beginning L D R)
-    (begins : BeginsWith log_seen data_seen stands opened script log_only archive followers start)
-    (may : MayBegin opened script log_only) where
+    (begins : BeginsWith log_seen data_seen stands opened script plan followers start)
+    (may : MayBegin opened script plan.log_only) where
   pub lines_end : last_lsn begins.run.setup (views_of start.actors.items) ≤ script_end opened.shape opened.start script
   lines_end =
       let c : Setup = begins.run.setup in
       let actors : List Actor = views_of start.actors.items in
       let text : ℕ = length (stream_of (map (group_of opened.shape.space) script)) in
       let base : c.base ≡ sn_of opened.start = sym (sn_back c.base) ∙ ap sn_of begins.is_run.start in
-      let all = ap (sum_over_actors left_to_reserve) begins.stands.are_new ∙ actors_reserve opened.shape script opened.start c.log_only archive (length followers) may.fits.lines in
+      let all = ap (sum_over_actors left_to_reserve) begins.stands.are_new
+      ∙ actors_reserve opened.shape script opened.start plan may.fits.lines in
       let less = sum_less bytes_of left_to_reserve actors (λ seat a at. of_actor c begins.at_start.seat_of begins.at_start.writer seat a (begins.at_start.starts.each seat a at)) in
       let low = lsn_le (c.base + sum_over_actors bytes_of actors) (c.base + text) (omega arith) in
       let same = lsn_is (c.base + text) ∙ ap (λ (n : ℕ). lsn_of (n + text)) base in omega arith
 
 module _ {L D R : Type 0} (log_seen : L → Seen) (data_seen : D → Seen) (stands : R → List Given → Type 0)
-    (opened : Opened L D) (script : List ScriptLine) (log_only archive : Bool) (followers : List (Following R))
+    (opened : Opened L D) (script : List ScriptLine) (plan : Plan) (followers : List (Following R))
     (start : Beginning L D R)
-    (begins : BeginsWith log_seen data_seen stands opened script log_only archive followers start) (may : MayBegin opened script log_only)
-    (alone : log_only ≡ true) (unarchived : archive ≡ false) (none : length followers ≡ 0) where
+    (begins : BeginsWith log_seen data_seen stands opened script plan followers start)
+        (may : MayBegin opened script plan.log_only)
+    (alone : plan.log_only ≡ true) (unarchived : plan.archive ≡ false) (none : plan.followers ≡ 0) where
   abbrev run : RunOf L D
   run = begins.run
 
@@ -130,11 +133,12 @@ module _ {L D R : Type 0} (log_seen : L → Seen) (data_seen : D → Seen) (stan
   only : c.log_only ≡ true
   only = begins.is_run.log_only_is ∙ alone
 
+  only_log : plan ≡ record { log_only = true; archive = false; followers = 0 }
+  only_log = λ i. record { log_only = alone i; archive = unarchived i; followers = none i }
+
   actors_are : ◌≡◌ {A = List Actor} actors (in_seats users writer flusher)
   actors_are = begins.stands.are_new
-      ∙ ap (λ (b : Bool). seated_actors opened.shape script opened.start b archive (length followers)) only
-      ∙ ap (λ (b : Bool). seated_actors opened.shape script opened.start true b (length followers)) unarchived
-      ∙ ap (λ (n : ℕ). seated_actors opened.shape script opened.start true false n) none
+      ∙ ap (λ (p : Plan). seated_actors opened.shape script opened.start p) only_log
 
   are_log_actors : AreLogActors actors
   are_log_actors = subst AreLogActors (sym actors_are) (record {
@@ -166,9 +170,10 @@ module _ {L D R : Type 0} (log_seen : L → Seen) (data_seen : D → Seen) (stan
     lists = λ k i. begins.at_start.none_listed i k;
     actors = are_log_actors;
     sound = ap (λ (p : _). is_some p.failed) begins.log ∙ ap is_some may.runnable.log_live;
-    short = (let by = lines_end log_seen data_seen stands opened script log_only archive followers start begins may in let end = may.fits.end in omega arith);
+    short = (let by = lines_end log_seen data_seen stands opened script plan followers start begins
+        may in let end = may.fits.end in omega arith);
     room =
-        let by = lines_end log_seen data_seen stands opened script log_only archive followers start begins may in
+        let by = lines_end log_seen data_seen stands opened script plan followers start begins may in
         let place = begins.is_run.start in
         let blocks = its_blocks in
         let fits = subst (λ (b : Bool). IfSome (room_from b opened.shape opened.start) (λ end. script_end opened.shape opened.start script + MARGIN ≤ end)) alone may.fits.room in

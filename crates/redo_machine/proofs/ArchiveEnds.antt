@@ -13,6 +13,7 @@ use Rattle.redo_drive.specs.Leaving.{LeavesWith}
 use Rattle.redo_drive.specs.declared.actor.Actor.{Actor}
 use Rattle.redo_drive.specs.declared.drive.Driven.{Driven}
 use Rattle.redo_drive.specs.declared.parts.Parts.{Parts}
+use Rattle.redo_drive.specs.declared.plan.Plan.{Plan}
 use Rattle.redo_machine.specs.Reading.{lost_by}
 use Rattle.redo_store.specs.declared.opened.Opened.{Opened}
 
@@ -29,11 +30,11 @@ module _ {L D A : Type 0} {archive : Bool} (log_seen : L → Seen) (data_seen : 
       lost_with log_seen data_seen seen run parts actors runs later come.beside code by ∙ ap append_code (sym is)
 
 -- WHAT A RUN LEAVES OF ITS ARCHIVE.
-module _ {L D A R : Type 0} {archive : Bool} (log_seen : L → Seen) (log_gives : L → Call → L → Type 0)
+module _ {L D A R : Type 0} (log_seen : L → Seen) (log_gives : L → Call → L → Type 0)
     (data_seen : D → Seen) (data_gives : D → Call → D → Type 0) (seen : A → Seen) (gives : A → Call → A → Type 0)
-    (stands : R → List Given → Type 0) (opened : Opened L D) (script : List ScriptLine) (log_only : Bool) (followers : ℕ) (starts actors : List (Actor R))
-    (driven : Driven L D)
-    (by : LeavesWith log_seen log_gives data_seen data_gives stands opened script log_only archive followers starts actors
+    (stands : R → List Given → Type 0) (opened : Opened L D) (script : List ScriptLine) (plan : Plan)
+    (starts actors : List (Actor R)) (driven : Driven L D)
+    (by : LeavesWith log_seen log_gives data_seen data_gives stands opened script plan starts actors
     driven.closed) where
   pub have_archived : (before after : Option (Part A))
       → HasComeTo log_seen data_seen seen gives by.run by.last (views_of actors) by.from.runs before after
@@ -43,4 +44,4 @@ module _ {L D A R : Type 0} {archive : Bool} (log_seen : L → Seen) (log_gives 
   have_archived None (Some later) come is = absurd come
   have_archived (Some part) None come is = absurd come
   have_archived (Some part) (Some later) come is = has_archived log_seen log_gives data_seen data_gives seen stands opened
-      script log_only followers starts actors driven by part later come (sym is)
+      script plan starts actors driven by part later come (sym is)

@@ -29,6 +29,7 @@ use Rattle.redo_drive.specs.LiveActors.{seated_before}
 use Rattle.redo_drive.specs.declared.making.Beginning.{Beginning}
 use Rattle.redo_drive.specs.declared.parts.Parts.{Parts}
 use Rattle.redo_drive.specs.declared.seating.TheConstants.{FIRST_FOLLOWER}
+use Rattle.redo_drive.specs.declared.plan.Plan.{Plan}
 use Rattle.redo_follow.specs.Following.{Following}
 use Rattle.redo_machine.proofs.Alone.{lines_end}
 use Rattle.redo_machine.specs.Reading.{AreNumbered}
@@ -57,10 +58,10 @@ beside_of log_seen data_seen seen gives run parts actors runs (Some part) None c
 beside_of log_seen data_seen seen gives run parts actors runs (Some part) (Some later) come = come.beside
 
 module _ {L D A R : Type 0} (log_seen : L → Seen) (data_seen : D → Seen) (seen : A → Seen) (stands : R → List Given → Type 0)
-    (opened : Opened L D) (script : List ScriptLine) (log_only archive : Bool) (followers : List (Following R))
+    (opened : Opened L D) (script : List ScriptLine) (plan : Plan) (followers : List (Following R))
     (start : Beginning L D R)
-    (begins : BeginsWith log_seen data_seen stands opened script log_only archive followers start)
-    (may : MayBegin opened script log_only) where
+    (begins : BeginsWith log_seen data_seen stands opened script plan followers start)
+    (may : MayBegin opened script plan.log_only) where
   abbrev run : RunOf L D
   run = begins.run
 
@@ -94,13 +95,13 @@ module _ {L D A R : Type 0} (log_seen : L → Seen) (data_seen : D → Seen) (se
   pub numbered : AreNewFollowers opened.start followers → AreNumbered start.actors.items
   numbered new = among (λ (f : Following R). 0 < f.state.number) start.actors.items (λ i f at.
       let these : ◌≡◌ {A = List (Following R)} (followers_in start.actors.items) followers =
-      starts_with opened.shape script opened.start c.log_only archive followers start.actors.items begins.stands.are_new
-      begins.followers in
+      starts_with opened.shape script opened.start plan followers start.actors.items begins.many
+      begins.stands.are_new begins.followers in
       let is = new.each i f (subst (λ (l : List (Following R)). get_elem? l i ≡ some f) these at) in
       let number : f.state.number ≡ FIRST_FOLLOWER + i = ap (λ (r : ReaderState). r.number) is in omega arith)
 
   -- WITHOUT AN ARCHIVE no actor archives.
-  none_archives : archive ≡ false → HasNoArchiver actors
+  none_archives : plan.archive ≡ false → HasNoArchiver actors
   none_archives alone seat r at =
       let first = begins.is_run.first_is in
       let one = ap first_reader alone in
@@ -108,18 +109,19 @@ module _ {L D A R : Type 0} (log_seen : L → Seen) (data_seen : D → Seen) (se
       ne_eqb r.number 0 (λ zero. omega arith)
 
   -- WITH ONE it stands beside its archiver.
-  module _ (archived : archive ≡ true) (gives : A → Call → A → Type 0) (part : Part A)
+  module _ (archived : plan.archive ≡ true) (gives : A → Call → A → Type 0) (part : Part A)
       (new : IsNewArchive seen opened script part) where
     abbrev front : List model.Actor
-    front = seated_before opened.shape script opened.start c.log_only archive (length followers)
+    front = seated_before opened.shape script opened.start plan
 
     its_seat : get_elem? actors (length front) ≡ some (model.Reader (new_reader 0 opened.start))
     its_seat =
         let are : ◌≡◌ {A = List model.Actor} actors (front ++ model.Reader (new_reader 0 opened.start)
-        ∷ followers_from opened.start FIRST_FOLLOWER (length followers)) =
-        begins.stands.are_new ∙ ap (λ (b : Bool). front ++ readers_of opened.start b (length followers)) archived in
+        ∷ followers_from opened.start FIRST_FOLLOWER plan.followers) =
+        begins.stands.are_new
+        ∙ ap (λ (b : Bool). front ++ readers_of opened.start (record plan { archive = b })) archived in
         ap (λ (l : List model.Actor). get_elem? l (length front)) are
-        ∙ just_behind front (followers_from opened.start FIRST_FOLLOWER (length followers))
+        ∙ just_behind front (followers_from opened.start FIRST_FOLLOWER plan.followers)
         (model.Reader (new_reader 0 opened.start))
 
     pace : KeepsPace seen (script_end opened.shape opened.start script) (slice_index words 3) (new_reader 0 opened.start) part
@@ -138,7 +140,7 @@ module _ {L D A R : Type 0} (log_seen : L → Seen) (data_seen : D → Seen) (se
           round = refl;
           loaded = omega arith;
           up_to = omega arith;
-          within = (let all = lines_end log_seen data_seen stands opened script log_only archive followers start begins may in
+          within = (let all = lines_end log_seen data_seen stands opened script plan followers start begins may in
               let low = lsn_le c.base (c.base + sum_over_actors bytes_of actors) (omega arith) in
               let base = begins.is_run.start in omega arith);
           small = may.fits.end;
@@ -159,7 +161,7 @@ module _ {L D A R : Type 0} (log_seen : L → Seen) (data_seen : D → Seen) (se
           ∙ sym (seat_is (length front) (new_reader 0 opened.start) its_seat);
       start = new.start ∙ sym begins.is_run.start;
       limit = script_end opened.shape opened.start script;
-      all = lines_end log_seen data_seen stands opened script log_only archive followers start begins may;
+      all = lines_end log_seen data_seen stands opened script plan followers start begins may;
       pace = pace;
       asked = (let flushed = flushed_is in
           let mark : part.marks.mark ≡ opened.start = ap (λ (z : _). z.mark) new.begun in
@@ -183,7 +185,7 @@ module _ {L D A R : Type 0} (log_seen : L → Seen) (data_seen : D → Seen) (se
     }
 
   -- SO IT HAS COME THERE.
-  pub comes : (gives : A → Call → A → Type 0) (before : Option (Part A)) → is_some before ≡ archive
+  pub comes : (gives : A → Call → A → Type 0) (before : Option (Part A)) → is_some before ≡ plan.archive
       → IfSome before (IsNewArchive seen opened script)
       → HasComeTo log_seen data_seen seen gives run start.parts actors begins.from.runs before before
   comes gives None is new = none_archives (sym is)

@@ -14,11 +14,10 @@ use Rattle.redo_archive.specs.Part.{Part}
 use Rattle.redo_archiver.specs.{append_code}
 use Rattle.redo_drive.proofs.ShapeStays.{run_shape}
 use Rattle.redo_drive.proofs.ThinTurns.{thin, turn_thin}
-use Rattle.redo_drive.specs.{HaveArchived, HasComeTo, AskOfParts, AreNewFollowers, MayBegin, CallOnBoth, CallsOn, ListsInOrder, views_of, RunsFromWith, RunOf, run_data_side, run_log_side, core_of}
+use Rattle.redo_drive.specs.{HaveArchived, HasComeTo, AskOfParts, AreNewFollowers, MayBegin, plan_with, CallOnBoth, CallsOn, ListsInOrder, views_of, RunsFromWith, RunOf, run_data_side, run_log_side, core_of}
 use Rattle.redo_drive.specs.LogPartSide as log_part
 use Rattle.redo_drive.proofs.LeftRun as left_run
 use Rattle.redo_drive.specs.Followed.{HaveFollowed}
-use Rattle.redo_drive.specs.Setups.{seated_actors}
 use Rattle.redo_drive.specs.Drive.{HasMetError, Owes}
 use Rattle.redo_machine.proofs.Alone as alone
 use Rattle.redo_machine.proofs.ArchiveEnds.{have_archived, loses_by}
@@ -49,7 +48,8 @@ pub record TurnsLead {L D A R : Type 0} (log_seen : L → Seen) (log_gives : L �
     (before : Option (Part A)) (followers : List (Following R))
     (actors : List (Actor R)) (driven : Driven L D) (after : Option (Part A)) : Type 0 where
   pub first : Beginning L D R
-  pub begins : BeginsWith log_seen data_seen stands opened script turns.log_only (is_some before) followers first
+  pub begins : BeginsWith log_seen data_seen stands opened script (plan_with turns.log_only before followers) followers
+      first
   pub last : Parts L D
   pub from : RunsFromWith log_seen data_seen stands begins.run (is_some before) first.actors.items last actors
   pub come : HasComeTo log_seen data_seen arch_seen arch_gives begins.run last (views_of actors) from.runs before after
@@ -94,22 +94,22 @@ module _ {L D A R : Type 0} {arch_gives : A → Call → A → Type 0} (log_seen
       → turns.log_only ≡ true → is_some before ≡ false → length followers ≡ 0 → count < MAX_TURNS
   are_few may count user spent only unarchived none =
       let all = is_spent count user spent in
-      let few = alone.spent_are_fewer log_seen data_seen stands opened script turns.log_only (is_some before) followers by.first by.begins may only unarchived none
+      let few = alone.spent_are_fewer log_seen data_seen stands opened script
+          (plan_with turns.log_only before followers)
+      followers by.first by.begins may only unarchived none
       turns.seed turns.max user last
       (plain_spent (run_log_side log_seen data_seen run) (run_data_side log_seen data_seen run)
       (AskAt (run_log_side log_seen data_seen run) (run_data_side log_seen data_seen run)
       (AskOfParts log_gives data_gives)) turns.seed turns.max user first last all.1) in omega (arith, all.0)
 
   -- nothing was done yet
-  begins : NothingIsDone log_seen data_seen opened script turns.log_only (is_some before) (length followers)
+  begins : NothingIsDone log_seen data_seen opened script (plan_with turns.log_only before followers)
       (thin log_seen data_seen run first)
   begins = let stood = by.begins.stands in record {
-    layout = start_layout log_seen data_seen stands opened script turns.log_only (is_some before) followers by.first
-        by.begins;
+    layout = start_layout log_seen data_seen stands opened script (plan_with turns.log_only before followers)
+        followers by.first by.begins;
     words = by.begins.words;
-    actors = stood.are_new
-        ∙ ap (λ (b : Bool). seated_actors opened.shape script opened.start b (is_some before) (length followers))
-        by.begins.is_run.log_only_is;
+    actors = stood.are_new;
     log = stood.log;
     data_part = stood.data_part;
     lists = stood.none_listed;
@@ -117,8 +117,8 @@ module _ {L D A R : Type 0} {arch_gives : A → Call → A → Type 0} (log_seen
 
   -- so the run is by turns
   pub by_turns : MayBegin opened script turns.log_only
-      → RunsByTurns log_seen log_gives data_seen data_gives false opened script turns (is_some before)
-      (length followers) (views_of actors) driven
+      → RunsByTurns log_seen log_gives data_seen data_gives false opened script turns
+      (plan_with turns.log_only before followers) (views_of actors) driven
   by_turns may = record {
     first = thin log_seen data_seen run first;
     begins = begins;
@@ -149,8 +149,8 @@ module _ {L D A R : Type 0} {arch_gives : A → Call → A → Type 0} (log_seen
   lost_by_archive = loses_by log_seen data_seen arch_seen arch_gives by.begins.run by.last (views_of actors) by.from.runs before after
       driven.closed.lost by.come by.lost
 
-  pub leaves : LeavesWith log_seen log_gives data_seen data_gives stands opened script turns.log_only (is_some before) (length followers)
-      by.first.actors.items actors driven.closed
+  pub leaves : LeavesWith log_seen log_gives data_seen data_gives stands opened script
+      (plan_with turns.log_only before followers) by.first.actors.items actors driven.closed
   leaves = record {
     run = run;
     is_run = by.begins.is_run;
@@ -187,29 +187,28 @@ module _ {L D A R : Type 0} {arch_gives : A → Call → A → Type 0} (log_seen
       by.from.runs.running.both.logged (word_marks m) script opened.shape by.begins.is_run.of_script
       (seated_seats c (views_of actors) by.from.runs.seated script opened.shape by.begins.is_run.of_script)
       (HasMetError driven.closed)
-      (λ failed. left_run.met_error log_seen log_gives data_seen data_gives stands opened script turns.log_only
-      (length followers) by.first.actors.items actors driven leaves
+      (λ failed. left_run.met_error log_seen log_gives data_seen data_gives stands opened script
+      (plan_with turns.log_only before followers) by.first.actors.items actors driven leaves
       (m.failed, by.from.runs.running.both.cause failed)) user end.seat end.state end.is end.number end.not_ended end.least)
 
   has_ended : driven.ended ≡ ended.Done → HaveEnded (views_of actors)
   has_ended done = (is_done done).ended
 
   pub owes : MayBegin opened script turns.log_only → Owes log_seen log_gives data_seen data_gives opened script driven
-  owes may = left_run.owes log_seen log_gives data_seen data_gives stands opened script turns.log_only
-      (length followers) by.first.actors.items actors driven leaves may.runnable has_ended leaves_open
+  owes may = left_run.owes log_seen log_gives data_seen data_gives stands opened script
+      (plan_with turns.log_only before followers) by.first.actors.items actors driven leaves may.runnable has_ended
+          leaves_open
 
   pub followed : AreNewFollowers opened.start followers → HaveFollowed log_seen data_seen stands opened script
       followers actors driven.closed
-  followed new = left_run.have_followed log_seen log_gives data_seen data_gives stands opened script turns.log_only
-      (length followers)
-      by.first.actors.items actors driven leaves followers new
-      (by.begins.stands.are_new ∙ ap (λ (b : Bool). seated_actors opened.shape script opened.start b (is_some before) (length followers))
-      by.begins.is_run.log_only_is)
-      by.begins.followers
+  followed new = left_run.have_followed log_seen log_gives data_seen data_gives stands opened script
+      (plan_with turns.log_only before followers) by.first.actors.items actors driven leaves followers new refl
+      by.begins.stands.are_new by.begins.followers
 
   -- WHAT IT LEAVES OF THE ARCHIVE.
   pub archived : HaveArchived log_seen data_seen arch_seen arch_gives opened script driven.closed (views_of actors)
       before after
   unfolding leaves
-  archived = have_archived log_seen log_gives data_seen data_gives arch_seen arch_gives stands opened script turns.log_only
-      (length followers) by.first.actors.items actors driven leaves before after by.come by.lost
+  archived = have_archived log_seen log_gives data_seen data_gives arch_seen arch_gives stands opened script
+      (plan_with turns.log_only before followers) by.first.actors.items actors driven leaves before after by.come
+          by.lost

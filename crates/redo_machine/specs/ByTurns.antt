@@ -12,6 +12,7 @@ use Rattle.redo_drive.specs.Setups.{first_words, seated_actors}
 use Rattle.redo_drive.specs.declared.drive.Driven.{Driven}
 use Rattle.redo_drive.specs.declared.drive.RunEnd.{RunEnd}
 use Rattle.redo_drive.specs.declared.drive.RunEnd.TheVariants as ran
+use Rattle.redo_drive.specs.declared.plan.Plan.{Plan}
 use Rattle.redo_machine.specs.declared.drive.Turns.{Turns}
 use Rattle.redo_store.specs.declared.opened.Opened.{Opened}
 
@@ -24,11 +25,10 @@ EndsAs store seed max first (ran.Spent turns user) last = (turns ≡ max) × IsS
 -- NOTHING IS DONE YET: the words are those with which a run begins, laid out for the opened pages and their size, the
 -- actors of the script are new and in their seats, both parts are those that were opened, and no page is listed.
 pub record NothingIsDone {L D : Type 0} (log_seen : L → Seen) (data_seen : D → Seen) (opened : Opened L D)
-    (script : List ScriptLine) (log_only archive : Bool) (followers : ℕ)
-    (store : Core (turn_log_side log_seen) (turn_data_side data_seen)) : Type 0 where
+    (script : List ScriptLine) (plan : Plan) (store : Core (turn_log_side log_seen) (turn_data_side data_seen)) : Type 0 where
   pub layout : store.layout ≡ record { pages = opened.shape.pages; page_size = opened.shape.page_size }
   pub words : store.words ≡ flat (first_words opened.shape.page_size opened.start opened.pages)
-  pub actors : store.actors ≡ seated_actors opened.shape script opened.start log_only archive followers
+  pub actors : store.actors ≡ seated_actors opened.shape script opened.start plan
   pub log : store.log_part ≡ opened.log
   pub data_part : store.data_part ≡ opened.store
   pub lists : (i : ℕ) → ◌≡◌ {A = List Listed} (store.lists i) []
@@ -47,13 +47,12 @@ module _ {L D : Type 0} (log_seen : L → Seen) (log_gives : L → Call → L �
     abbrev store : TurnStore (turn_log_side log_seen) (turn_data_side data_seen)
     store = turn_store own_writes
 
-    -- THE TURNS. The run of the script on the opened store, with an archiver or without, and with so many followers,
-    -- began with nothing done. The turns of the seed led from there to its end, at which the actors are these, and both
-    -- parts those of the closed run.
-    pub record RunsByTurns (opened : Opened L D) (script : List ScriptLine) (turns : Turns) (archive : Bool)
-        (followers : ℕ) (actors : List model.Actor) (driven : Driven L D) : Type 0 where
+    -- THE TURNS. The run of the script on the opened store, by this plan, began with nothing done. The turns of the seed
+    -- led from there to its end, at which the actors are these, and both parts those of the closed run.
+    pub record RunsByTurns (opened : Opened L D) (script : List ScriptLine) (turns : Turns) (plan : Plan)
+        (actors : List model.Actor) (driven : Driven L D) : Type 0 where
       pub first : store.State
-      pub begins : NothingIsDone log_seen data_seen opened script turns.log_only archive followers (store.core first)
+      pub begins : NothingIsDone log_seen data_seen opened script plan (store.core first)
       pub is_new : store.IsNew first
       pub last : store.State
       pub actors_are : ◌≡◌ {A = List model.Actor} actors (store.core last).actors
@@ -66,5 +65,5 @@ module _ {L D : Type 0} (log_seen : L → Seen) (log_gives : L → Call → L �
       pub history : ListsInOrder driven.closed.marks actors driven.closed.history
       -- where the log ran alone, without archiver and followers, and no user wrote for itself, turns that were spent
       -- are fewer than the greatest number that may be asked for
-      pub few : own_writes ≡ false → (spent user : ℕ) → driven.ended ≡ ran.Spent spent user → turns.log_only ≡ true
-          → archive ≡ false → followers ≡ 0 → spent < MAX_TURNS
+      pub few : own_writes ≡ false → (spent user : ℕ) → driven.ended ≡ ran.Spent spent user → plan.log_only ≡ true
+          → plan.archive ≡ false → plan.followers ≡ 0 → spent < MAX_TURNS

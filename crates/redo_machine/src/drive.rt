@@ -1,6 +1,6 @@
 // The drive by turns.
-ghost use Rattle.std.specs.Prelude.{◌≡◌, IfErr, IfOk, IfSome, false, is_some, length};
-ghost use Rattle.redo_drive.specs.{HaveArchived, AreNewFollowers, IsNewArchive, MayBegin, views_of};
+ghost use Rattle.std.specs.Prelude.{◌≡◌, IfErr, IfOk, IfSome, false};
+ghost use Rattle.redo_drive.specs.{HaveArchived, AreNewFollowers, IsNewArchive, MayBegin, plan_with, views_of};
 ghost use Rattle.redo_drive.specs.Drive.{Owes};
 ghost use Rattle.redo_drive.specs.Followed.{HaveFollowed};
 ghost use Rattle.redo_machine.specs.ByTurns.{RunsByTurns};
@@ -42,7 +42,7 @@ pub fn run_by_turns<L: Sectors, D: Sectors, A: Sectors, R: Receiver + Drop>(
     requires new { AreNewFollowers opened.start followers.items }
     ensures err { IfErr result (λ error. (error.1 ≡ opened.log.dev) × (error.2 ≡ opened.store.dev) × (error.3 ≡ archive)) }
     ensures owed { IfOk result (λ left. Owes L.seen L.gives D.seen D.gives opened script.now left.0) }
-    ensures turns { IfOk result (λ left. RunsByTurns L.seen L.gives D.seen D.gives false opened script.now turns.now (is_some archive) (length followers.items) (views_of left.1.items) left.0) }
+    ensures turns { IfOk result (λ left. RunsByTurns L.seen L.gives D.seen D.gives false opened script.now turns.now (plan_with turns.now.log_only archive followers.items) (views_of left.1.items) left.0) }
     ensures followed { IfOk result (λ left. HaveFollowed L.seen D.seen R.stands_for opened script.now followers.items left.1.items left.0.closed) }
     ensures archived { IfOk result (λ left. HaveArchived L.seen D.seen A.seen A.gives opened script.now left.0.closed
         (views_of left.1.items) archive left.2) }

@@ -1,6 +1,6 @@
 // A running store.
-ghost use Rattle.std.specs.Prelude.{◌≡◌, IfErr, IfOk, IfSome, is_some};
-ghost use Rattle.redo_drive.specs.{AreNewFollowers, IsNewArchive, MayBegin};
+ghost use Rattle.std.specs.Prelude.{◌≡◌, IfErr, IfOk, IfSome};
+ghost use Rattle.redo_drive.specs.{AreNewFollowers, IsNewArchive, MayBegin, plan_with};
 ghost use Rattle.redo_drive.specs.Begins.{BeginsWith};
 ghost use Rattle.redo_machine.specs.Reading.{IsOnRun};
 
@@ -8,7 +8,7 @@ use model_report::Entry;
 use model_script::Script;
 use redo_archive::ArchPart;
 use redo_disk::Sectors;
-use redo_drive::{Actor, Beginning, Parts, begin_run_with};
+use redo_drive::{Actor, Beginning, Parts, Plan, begin_run_with};
 use redo_follow::{Follower, Receiver};
 use redo_lsn::NoMemory;
 use redo_store::Opened;
@@ -42,13 +42,17 @@ impl<L: Sectors, D: Sectors, A: Sectors, R: Receiver + Drop> Machine<L, D, A, R>
         requires archive { IfSome archive (IsNewArchive A.seen opened script.now) }
         requires new { AreNewFollowers opened.start followers.items }
         ensures err { IfErr result (λ error. (error.1 ≡ opened.log.dev) × (error.2 ≡ opened.store.dev) × (error.3 ≡ archive)) }
-        ensures begins { IfOk result (λ machine. BeginsWith L.seen D.seen R.stands_for opened script.now log_only (is_some archive) followers.items
+        ensures begins { IfOk result (λ machine. BeginsWith L.seen D.seen R.stands_for opened script.now (plan_with log_only archive followers.items) followers.items
             (record { parts = machine.parts; actors = machine.actors; entries = machine.entries })) }
         ensures archive { IfOk result (λ machine. machine.archive ≡ archive) }
         ensures on_run { IfOk result (λ machine. IsOnRun L.seen D.seen A.seen machine) }
     {
-        let archives = archive.is_some();
-        match begin_run_with(alloc, opened, script, log_only, archives, followers) {
+        let plan = Plan {
+            log_only,
+            archive: archive.is_some(),
+            followers: followers.len() as u64,
+        };
+        match begin_run_with(alloc, opened, script, plan, followers) {
             Err((error, log, store)) => Err((error, log, store, archive)),
             Ok(
                 Beginning {

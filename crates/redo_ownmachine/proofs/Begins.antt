@@ -25,6 +25,7 @@ use Rattle.redo_drive.specs.declared.actor.Actor.{Actor}
 use Rattle.redo_drive.specs.declared.making.Beginning.{Beginning}
 use Rattle.redo_drive.specs.declared.parts.Parts.{Parts}
 use Rattle.redo_drive.specs.declared.seating.TheConstants.{FIRST_FOLLOWER}
+use Rattle.redo_drive.specs.declared.plan.Plan.{Plan}
 use Rattle.redo_follow.specs.Following.{Following}
 use Rattle.redo_ownmachine.proofs.OpenSeats.{same_rest, tail_of}
 use Rattle.redo_ownmachine.proofs.Places.{crew_views}
@@ -41,14 +42,17 @@ followers_other : (start number n : ℕ) → AreOtherViews (followers_from start
 followers_other start number zero = tt
 followers_other start number (suc n) = (tt, followers_other start (number + 1) n)
 
-readers_other : (start : ℕ) (archive : Bool) (n : ℕ) → AreOtherViews (readers_of start archive n)
-readers_other start true n = (tt, followers_other start FIRST_FOLLOWER n)
-readers_other start false n = followers_other start FIRST_FOLLOWER n
+readers_other : (start : ℕ) (plan : Plan) → AreOtherViews (readers_of start plan)
+readers_other start plan = by plan.archive
+  where
+    by : (b : Bool) → AreOtherViews (readers_of start (record plan { archive = b }))
+    by true = (tt, followers_other start FIRST_FOLLOWER plan.followers)
+    by false = followers_other start FIRST_FOLLOWER plan.followers
 
-module _ {L D R : Type 0} {archive : Bool} (log_seen : L → Seen) (data_seen : D → Seen) (stands : R → List Given → Type 0)
-    (opened : Opened L D) (script : List ScriptLine) (log_only : Bool) (followers : List (Following R))
+module _ {L D R : Type 0} (log_seen : L → Seen) (data_seen : D → Seen) (stands : R → List Given → Type 0)
+    (opened : Opened L D) (script : List ScriptLine) (plan : Plan) (followers : List (Following R))
     (start : Beginning L D R)
-    (begins : BeginsWith log_seen data_seen stands opened script log_only archive followers start) where
+    (begins : BeginsWith log_seen data_seen stands opened script plan followers start) where
   abbrev run : RunOf L D
   run = begins.run
 
@@ -56,12 +60,11 @@ module _ {L D R : Type 0} {archive : Bool} (log_seen : L → Seen) (data_seen : 
   c = run.setup
 
   abbrev pages : Bool → List model.Actor
-  pages b = page_actors opened.shape opened.start b archive (length followers)
-      ++ readers_of opened.start archive (length followers)
+  pages b = page_actors opened.shape opened.start (record plan { log_only = b }) ++ readers_of opened.start plan
 
   pages_other : (b : Bool) → AreOtherViews (pages b)
-  pages_other true = readers_other opened.start archive (length followers)
-  pages_other false = (tt, (tt, (tt, readers_other opened.start archive (length followers))))
+  pages_other true = readers_other opened.start plan
+  pages_other false = (tt, (tt, (tt, readers_other opened.start plan)))
 
   -- the log alone has no actors of pages
   no_pages : (b : Bool) → ◌≡◌ {A = List model.Actor} (pages b) [] → b ≡ true
@@ -69,7 +72,7 @@ module _ {L D R : Type 0} {archive : Bool} (log_seen : L → Seen) (data_seen : 
   no_pages false none = absurd (cc)
 
   abbrev users : List UserState
-  users = users_of opened.shape c.log_only script
+  users = users_of opened.shape plan.log_only script
 
   abbrev writer : WriterState
   writer = new_writer (run_layout opened.shape).blocks opened.start
@@ -78,17 +81,17 @@ module _ {L D R : Type 0} {archive : Bool} (log_seen : L → Seen) (data_seen : 
   flusher = new_flusher opened.start
 
   views_are : ◌≡◌ {A = List model.Actor} (views_of start.actors.items)
-      (map model.User users ++ model.Writer writer ∷ model.Flusher flusher ∷ pages c.log_only)
+      (map model.User users ++ model.Writer writer ∷ model.Flusher flusher ∷ pages plan.log_only)
   views_are = begins.stands.are_new ∙ append_assoc (map model.User users)
-      (model.Writer writer ∷ model.Flusher flusher
-      ∷ page_actors opened.shape opened.start c.log_only archive (length followers))
-      (readers_of opened.start archive (length followers))
+      (model.Writer writer ∷ model.Flusher flusher ∷ page_actors opened.shape opened.start plan)
+      (readers_of opened.start plan)
 
   pub have_workers : HaveWorkers start.actors.items
-  have_workers = by_views start.actors.items users writer flusher (pages c.log_only) views_are (pages_other c.log_only)
+  have_workers = by_views start.actors.items users writer flusher (pages plan.log_only) views_are
+      (pages_other plan.log_only)
 
   -- where these are the actors
-  module _ (may : MayBegin opened script log_only) (us : List OwnUser) (k : LogWork) (os : List (Actor R))
+  module _ (may : MayBegin opened script plan.log_only) (us : List OwnUser) (k : LogWork) (os : List (Actor R))
       (are : ◌≡◌ {A = List (Actor R)} (crew us k os) start.actors.items) (home : AreAtHome us) where
     abbrev seats : OwnSeats
     seats = record { users = us; work = k; others = views_of os }
@@ -115,7 +118,7 @@ module _ {L D R : Type 0} {archive : Bool} (log_seen : L → Seen) (data_seen : 
     reserve : sum_over_actors left_to_reserve (actors_of seats)
         ≡ length (stream_of (map (group_of opened.shape.space) script))
     reserve = ap (sum_over_actors left_to_reserve) (sym views ∙ begins.stands.are_new)
-        ∙ actors_reserve opened.shape script opened.start c.log_only archive (length followers) may.fits.lines
+        ∙ actors_reserve opened.shape script opened.start plan may.fits.lines
 
     own_start : OwnStart (run_log_side log_seen data_seen run) (run_data_side log_seen data_seen run) c
         (own_core_of log_seen data_seen run start.parts seats)
@@ -132,12 +135,13 @@ module _ {L D R : Type 0} {archive : Bool} (log_seen : L → Seen) (data_seen : 
       room = subst (λ (n : ℕ). lsn (n + sum_over_actors left_to_reserve (actors_of seats)) < LSN_LIMIT) (sym base)
           (subst (λ (l : List model.Actor). lsn (sn_of opened.start + sum_over_actors left_to_reserve l) < LSN_LIMIT)
           (sym begins.stands.are_new ∙ views)
-          (room_for_all opened.shape script opened.start c.log_only archive (length followers) may.fits.lines may.fits.end));
+          (room_for_all opened.shape script opened.start plan may.fits.lines may.fits.end));
     }
 
-    pub runs : OwnRunsWith log_seen data_seen run archive start.parts seats
+    pub runs : OwnRunsWith log_seen data_seen run plan.archive start.parts seats
     runs = record {
-      runs = subst (λ (l : List model.Actor). RunsWith log_seen data_seen run archive start.parts l) views begins.from.runs;
+      runs = subst (λ (l : List model.Actor). RunsWith log_seen data_seen run plan.archive start.parts l) views
+          begins.from.runs;
       errands = (own_starts (run_log_side log_seen data_seen run) (its_log_laws log_seen data_seen run)
           (run_data_side log_seen data_seen run) (its_data_laws log_seen data_seen run) c
           (own_core_of log_seen data_seen run start.parts seats) own_start).errands;
@@ -146,12 +150,12 @@ module _ {L D R : Type 0} {archive : Bool} (log_seen : L → Seen) (data_seen : 
     -- with one user and no other actor
     module _ (o : OwnUser) (one : us ≡ o ∷ []) (no_others : ◌≡◌ {A = List model.Actor} (views_of os) []) where
       in_order : (k.writer ≡ writer) × ◌≡◌ {A = List model.Actor} (model.Flusher k.flusher ∷ views_of os)
-          (model.Flusher flusher ∷ pages c.log_only)
+          (model.Flusher flusher ∷ pages plan.log_only)
       in_order = same_rest us users k.writer writer (model.Flusher k.flusher ∷ views_of os)
-          (model.Flusher flusher ∷ pages c.log_only) (sym views ∙ views_are)
+          (model.Flusher flusher ∷ pages plan.log_only) (sym views ∙ views_are)
 
-      log_only_is : c.log_only ≡ true
-      log_only_is = no_pages c.log_only (sym (ap tail_of in_order.1) ∙ no_others)
+      log_only_is : plan.log_only ≡ true
+      log_only_is = no_pages plan.log_only (sym (ap tail_of in_order.1) ∙ no_others)
 
       its_blocks : c.blocks ≡ (run_layout opened.shape).blocks
       its_blocks = sym (ap (λ (w : LogWork). w.writer.blocks) work_is) ∙ ap (λ (w : WriterState). w.blocks) in_order.0
@@ -173,24 +177,25 @@ module _ {L D R : Type 0} {archive : Bool} (log_seen : L → Seen) (data_seen : 
       pub alone : OwnAlone log_seen data_seen run start.parts seats
       alone = alone_starts (run_log_side log_seen data_seen run) (its_log_laws log_seen data_seen run)
           (run_data_side log_seen data_seen run) (its_data_laws log_seen data_seen run) c
-          (own_core_of log_seen data_seen run start.parts seats) own_start o log_only_is one no_others
+          (own_core_of log_seen data_seen run start.parts seats) own_start o (begins.is_run.log_only_is ∙ log_only_is)
+          one no_others
           (let by = ends_by in
           let place = begins.is_run.start in
           let blocks = its_blocks in
           let fits = subst (λ (b : Bool). IfSome (room_from b opened.shape opened.start)
           (λ end. script_end opened.shape opened.start script + MARGIN ≤ end))
-          (sym begins.is_run.log_only_is ∙ log_only_is) may.fits.room in
+          log_only_is may.fits.room in
           omega arith)
 
 -- So the machine stands at the beginning of the run.
-module _ {L D A R : Type 0} {archive : Bool} (log_seen : L → Seen) (data_seen : D → Seen)
-    (stands : R → List Given → Type 0) (opened : Opened L D) (script : List ScriptLine) (log_only : Bool)
+module _ {L D A R : Type 0} (log_seen : L → Seen) (data_seen : D → Seen)
+    (stands : R → List Given → Type 0) (opened : Opened L D) (script : List ScriptLine) (plan : Plan)
     (followers : List (Following R)) (start : Beginning L D R)
-    (begins : BeginsWith log_seen data_seen stands opened script log_only archive followers start)
-    (may : MayBegin opened script log_only) (m : OwnMachine L D A R) (parts : m.parts ≡ start.parts)
+    (begins : BeginsWith log_seen data_seen stands opened script plan followers start)
+    (may : MayBegin opened script plan.log_only) (m : OwnMachine L D A R) (parts : m.parts ≡ start.parts)
     (entries : m.entries ≡ start.entries) (are : ◌≡◌ {A = List (Actor R)} (crew_of m) start.actors.items)
     (home : AreAtHome m.users.items) (room : HasRoom m) where
-  pub own_begins : OwnBeginsRun log_seen data_seen stands opened script log_only archive followers m
+  pub own_begins : OwnBeginsRun log_seen data_seen stands opened script plan followers m
   own_begins = record {
     start = start;
     begins = begins;
@@ -199,10 +204,10 @@ module _ {L D A R : Type 0} {archive : Bool} (log_seen : L → Seen) (data_seen 
     crew = are;
     at_home = home;
     has_room = room;
-    runs = subst (λ (p : Parts L D). OwnRunsWith log_seen data_seen begins.run archive p (seats_of m)) (sym parts)
-        (runs log_seen data_seen stands opened script log_only followers start begins may m.users.items m.work
+    runs = subst (λ (p : Parts L D). OwnRunsWith log_seen data_seen begins.run plan.archive p (seats_of m)) (sym parts)
+        (runs log_seen data_seen stands opened script plan followers start begins may m.users.items m.work
         m.others.items are home);
     alone = λ o one none. subst (λ (p : Parts L D). OwnAlone log_seen data_seen begins.run p (seats_of m)) (sym parts)
-        (alone log_seen data_seen stands opened script log_only followers start begins may m.users.items m.work
+        (alone log_seen data_seen stands opened script plan followers start begins may m.users.items m.work
         m.others.items are home o one none);
   }

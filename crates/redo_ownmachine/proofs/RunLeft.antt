@@ -17,7 +17,7 @@ use Rattle.redo_archive.specs.Part.{Part}
 use Rattle.redo_disk.specs.{Call, Seen}
 use Rattle.redo_drive.proofs.LeftRun as left_run
 use Rattle.redo_drive.proofs.ShapeStays.{served_shape}
-use Rattle.redo_drive.specs.{HaveArchived, CallOnBoth, CallsOn, ListsInOrder, views_of, RunOf, run_data_side, run_log_side, AreNewFollowers, MayBegin}
+use Rattle.redo_drive.specs.{HaveArchived, CallOnBoth, CallsOn, ListsInOrder, views_of, RunOf, run_data_side, run_log_side, AreNewFollowers, MayBegin, plan_with}
 use Rattle.redo_drive.specs.Beginning.{StandsWith}
 use Rattle.redo_drive.specs.Drive.{HasMetError, Owes}
 use Rattle.redo_drive.specs.Followed.{HaveFollowed}
@@ -82,7 +82,8 @@ pub record OwnTurnsLead {L D A R : Type 0} (log_seen : L → Seen) (log_gives : 
     (script : List ScriptLine) (turns : Turns) (before : Option (Part A)) (followers : List (Following R))
     (actors : List (Actor R)) (driven : Driven L D) : Type 0 where
   pub first : OwnMachine L D A R
-  pub start : OwnBeginsRun log_seen data_seen stands opened script turns.log_only (is_some before) followers first
+  pub start : OwnBeginsRun log_seen data_seen stands opened script (plan_with turns.log_only before followers) followers
+      first
   pub last : OwnMachine L D A R
   pub actors_are : ◌≡◌ {A = List (Actor R)} actors (crew_of last)
   pub comes : OwnComesFrom log_seen data_seen arch_seen arch_gives stands start.begins.run (is_some before)
@@ -123,11 +124,11 @@ module _ {L D A R : Type 0} {arch_gives : A → Call → A → Type 0} (log_seen
   starts_views = ap views_of (sym by.start.crew)
       ∙ crew_views by.first.work by.first.users.items by.first.others.items
 
-  begins_at : StandsWith opened script (is_some before) (length followers) run by.first.parts
+  begins_at : StandsWith opened script (plan_with turns.log_only before followers) run by.first.parts
       (actors_of (seats_of by.first))
-  begins_at = subst (λ (p : Parts L D). StandsWith opened script (is_some before) (length followers) run p
+  begins_at = subst (λ (p : Parts L D). StandsWith opened script (plan_with turns.log_only before followers) run p
       (actors_of (seats_of by.first))) (sym by.start.parts)
-      (subst (λ (l : List model.Actor). StandsWith opened script (is_some before) (length followers) run
+      (subst (λ (l : List model.Actor). StandsWith opened script (plan_with turns.log_only before followers) run
       by.start.start.parts l) starts_views by.start.begins.stands)
 
   abbrev in_run : TurnStore (run_log_side log_seen data_seen run) (run_data_side log_seen data_seen run)
@@ -140,24 +141,22 @@ module _ {L D A R : Type 0} {arch_gives : A → Call → A → Type 0} (log_seen
   last = own_core_of log_seen data_seen run by.last.parts (seats_of by.last)
 
   -- nothing was done yet
-  begins : NothingIsDone log_seen data_seen opened script turns.log_only (is_some before) (length followers)
+  begins : NothingIsDone log_seen data_seen opened script (plan_with turns.log_only before followers)
       (with_writer (own_thin log_seen data_seen run first))
   begins = let stood = begins_at in record {
     layout = ap (λ (p : Parts L D). p.words.layout) by.start.parts
-        ∙ start_layout log_seen data_seen stands opened script turns.log_only (is_some before) followers by.start.start
-        by.start.begins;
+        ∙ start_layout log_seen data_seen stands opened script (plan_with turns.log_only before followers)
+        followers by.start.start by.start.begins;
     words = ap (λ (p : Parts L D). p.words.words) by.start.parts ∙ by.start.begins.words;
-    actors = stood.are_new
-        ∙ ap (λ (b : Bool). seated_actors opened.shape script opened.start b (is_some before) (length followers))
-        by.start.begins.is_run.log_only_is;
+    actors = stood.are_new;
     log = stood.log;
     data_part = stood.data_part;
     lists = stood.none_listed;
   }
 
   -- so the run is by turns
-  pub by_turns : RunsByTurns log_seen log_gives data_seen data_gives true opened script turns (is_some before)
-      (length followers) (views_of actors) driven
+  pub by_turns : RunsByTurns log_seen log_gives data_seen data_gives true opened script turns
+      (plan_with turns.log_only before followers) (views_of actors) driven
   by_turns = record {
     first = own_thin log_seen data_seen run first;
     begins = begins;
@@ -194,8 +193,8 @@ module _ {L D A R : Type 0} {arch_gives : A → Call → A → Type 0} (log_seen
   data_is : ◌≡◌ {A = store.Part D} by.first.parts.store opened.store
   data_is = ap (λ (p : Parts L D). p.store) by.start.parts ∙ by.start.begins.data_part
 
-  pub leaves : LeavesWith log_seen log_gives data_seen data_gives stands opened script turns.log_only (is_some before)
-      (length followers) starts ending driven.closed
+  pub leaves : LeavesWith log_seen log_gives data_seen data_gives stands opened script
+      (plan_with turns.log_only before followers) starts ending driven.closed
   leaves = record {
     run = run;
     is_run = by.start.begins.is_run;
@@ -237,26 +236,23 @@ module _ {L D A R : Type 0} {arch_gives : A → Call → A → Type 0} (log_seen
       by.comes.from.runs.running.both.logged (word_marks m) script opened.shape by.start.begins.is_run.of_script
       (seated_seats c (views_of ending) by.comes.from.runs.seated script opened.shape by.start.begins.is_run.of_script)
       (HasMetError driven.closed)
-      (λ failed. left_run.met_error log_seen log_gives data_seen data_gives stands opened script turns.log_only
-      (length followers) starts ending driven leaves
+      (λ failed. left_run.met_error log_seen log_gives data_seen data_gives stands opened script
+      (plan_with turns.log_only before followers) starts ending driven leaves
       (m.failed, by.comes.from.runs.running.both.cause failed)) user end.seat end.state
       (ap (λ (l : List model.Actor). get_elem? l end.seat) ending_views ∙ end.is) end.number end.not_ended
       (λ j u there. end.least j u (ap (λ (l : List model.Actor). get_elem? l j) (sym ending_views) ∙ there)))
 
   pub owes : MayBegin opened script turns.log_only → Owes log_seen log_gives data_seen data_gives opened script driven
-  owes may = left_run.owes log_seen log_gives data_seen data_gives stands opened script turns.log_only
-      (length followers) starts ending driven leaves may.runnable have_ended leaves_open
+  owes may = left_run.owes log_seen log_gives data_seen data_gives stands opened script
+      (plan_with turns.log_only before followers) starts ending driven leaves may.runnable have_ended leaves_open
 
   pub followed : AreNewFollowers opened.start followers → HaveFollowed log_seen data_seen stands opened script
       followers actors driven.closed
   followed new = subst (λ (l : List (Actor R)). HaveFollowed log_seen data_seen stands opened script followers l
       driven.closed) (sym by.actors_are)
-      (left_run.have_followed log_seen log_gives data_seen data_gives stands opened script turns.log_only
-      (length followers) starts ending driven leaves followers new
-      (by.start.begins.stands.are_new
-      ∙ ap (λ (b : Bool). seated_actors opened.shape script opened.start b (is_some before) (length followers))
-      by.start.begins.is_run.log_only_is)
-      by.start.begins.followers)
+      (left_run.have_followed log_seen log_gives data_seen data_gives stands opened script
+      (plan_with turns.log_only before followers) starts ending driven leaves followers new refl
+      by.start.begins.stands.are_new by.start.begins.followers)
 
   -- WHAT IT LEAVES OF THE ARCHIVE.
   pub archived : HaveArchived log_seen data_seen arch_seen arch_gives opened script driven.closed (views_of actors)
@@ -264,5 +260,6 @@ module _ {L D A R : Type 0} {arch_gives : A → Call → A → Type 0} (log_seen
   unfolding leaves
   archived = subst (λ (l : List (Actor R)). HaveArchived log_seen data_seen arch_seen arch_gives opened script
       driven.closed (views_of l) before by.last.archive) (sym by.actors_are)
-      (have_archived log_seen log_gives data_seen data_gives arch_seen arch_gives stands opened script turns.log_only
-      (length followers) starts ending driven leaves before by.last.archive by.comes.come by.lost)
+      (have_archived log_seen log_gives data_seen data_gives arch_seen arch_gives stands opened script
+      (plan_with turns.log_only before followers) starts ending driven leaves before by.last.archive by.comes.come
+          by.lost)

@@ -7,9 +7,10 @@ use Rattle.model_report.specs.declared.entry.Entry.{Entry}
 use Rattle.model_script.specs.declared.script.ScriptLine.{ScriptLine}
 use Rattle.redo_archive.specs.Part.{Part}
 use Rattle.redo_disk.specs.{Call, Seen}
-use Rattle.redo_drive.specs.{IsBeside, AreNewFollowers, IsNewArchive, MayBegin, views_of}
+use Rattle.redo_drive.specs.{IsBeside, AreNewFollowers, IsNewArchive, MayBegin, views_of, plan_with}
 use Rattle.redo_drive.specs.declared.actor.Actor.{Actor}
 use Rattle.redo_drive.specs.declared.parts.Parts.{Parts}
+use Rattle.redo_drive.specs.declared.plan.Plan.{Plan}
 use Rattle.redo_follow.specs.Following.{Following}
 use Rattle.redo_machine.proofs.ArchiveStarts as starts
 use Rattle.redo_machine.specs.Reading.{AreNumbered}
@@ -24,7 +25,7 @@ module _ {L D A R : Type 0} (log_seen : L → Seen) (data_seen : D → Seen) (se
     (gives : A → Call → A → Type 0) (stands : R → List Given → Type 0) (opened : Opened L D) (script : List ScriptLine)
     (log_only : Bool)
     (before : Option (Part A)) (followers : List (Following R)) (m : OwnMachine L D A R)
-    (B : OwnBeginsRun log_seen data_seen stands opened script log_only (is_some before) followers m)
+    (B : OwnBeginsRun log_seen data_seen stands opened script (plan_with log_only before followers) followers m)
     (may : MayBegin opened script log_only) (archived : IfSome before (IsNewArchive seen opened script))
     (is : m.archive ≡ before) where
   abbrev Has : Parts L D → List (Actor R) → Option (Part A) → Type 0
@@ -36,8 +37,8 @@ module _ {L D A R : Type 0} (log_seen : L → Seen) (data_seen : D → Seen) (se
       (subst (λ (l : List (Actor R)). Has B.start.parts l m.archive) (sym B.crew)
       (subst (λ (a : Option (Part A)). Has B.start.parts B.start.actors.items a) (sym is) (
         B.begins.from,
-        starts.comes log_seen data_seen seen stands opened script log_only (is_some before) followers B.start B.begins may
-            gives before refl archived,
+        starts.comes log_seen data_seen seen stands opened script (plan_with log_only before followers)
+            followers B.start B.begins may gives before refl archived,
       )))
 
   -- SO THE RUN HAS COME TO THE MACHINE.
@@ -54,8 +55,8 @@ module _ {L D A R : Type 0} (log_seen : L → Seen) (data_seen : D → Seen) (se
         (crew_views m.work m.users.items m.others.items)
         (let C = came in starts.beside_of log_seen data_seen seen gives B.begins.run m.parts (views_of (crew_of m)) C.0.runs before
         m.archive C.1);
-    numbered = subst AreNumbered (sym B.crew) (starts.numbered log_seen data_seen seen stands opened script log_only
-        (is_some before) followers B.start B.begins may new);
+    numbered = subst AreNumbered (sym B.crew) (starts.numbered log_seen data_seen seen stands opened script
+        (plan_with log_only before followers) followers B.start B.begins may new);
   }
 
 pub has_still_room : {L D A R : Type 0} (old new : OwnMachine L D A R) → HasRoom old → HasSameSeats old new → HasRoom new
@@ -71,9 +72,9 @@ has_still_room {L} {D} {A} {R} old new had same = record {
 
 -- and its room for the history
 module _ {L D A R : Type 0} (log_seen : L → Seen) (data_seen : D → Seen) (stands : R → List Given → Type 0)
-    (opened : Opened L D) (script : List ScriptLine) (log_only archive : Bool) (followers : List (Following R))
+    (opened : Opened L D) (script : List ScriptLine) (plan : Plan) (followers : List (Following R))
     (old new : OwnMachine L D A R)
-    (B : OwnBeginsRun log_seen data_seen stands opened script log_only archive followers old)
+    (B : OwnBeginsRun log_seen data_seen stands opened script plan followers old)
     (same : HasSameSeats old new) where
   pub no_entries : new.entries.items ≡ []
   no_entries = ap (λ (v : Vec Entry Global). v.items) (same.entries ∙ B.entries) ∙ B.begins.no_entries

@@ -139,7 +139,7 @@ module _ {L D R : Type 0} (log_seen : L → Seen) (log_gives : L → Call → L 
     (rest : AllAtRest ps)
     (cleaner : (i : ℕ) (a : model.Actor) → get_elem? (views_of (map actor_of ps)) i ≡ maybe.some a → IsCleaner a
     → HasPart v)
-    (alone_part : about.log_only ≡ true → HasPart v) where
+    (alone_part : about.plan.log_only ≡ true → HasPart v) where
   abbrev Q : Ruled log_seen log_gives data_seen data_gives about final.0
   Q = final.1.0
 
@@ -172,7 +172,7 @@ module _ {L D R : Type 0} (log_seen : L → Seen) (log_gives : L → Call → L 
   ends_as =
       let s = final.0 in
       let A = its_actors in
-      let now = subst (GoesOn log_seen data_seen about.archive Q.run Q.parts Q.heard) A.are
+      let now = subst (GoesOn log_seen data_seen about.plan.archive Q.run Q.parts Q.heard) A.are
       (record { runs = Q.runs; hears = Q.hears; reads = Q.reads; loaded = Q.loaded }) in
       let free : (k : ℕ) → k < 5 → slice_index s.words (7 + k) ≡ 0 = λ k l.
       elim (ℕ_discrete (slice_index s.words (7 + k)) 0) [
@@ -182,7 +182,7 @@ module _ {L D R : Type 0} (log_seen : L → Seen) (log_gives : L → Call → L 
             (ap (λ (z : List model.Actor). get_elem? z t.0) (sym A.are) ∙ t.2)).no_slot in
             let some_hand = t.3 in absurd (cc))
       ] in
-      let part : HasPart v = either_way about.log_only (HasPart v) alone_part (λ pages.
+      let part : HasPart v = either_way about.plan.log_only (HasPart v) alone_part (λ pages.
       let c = has_cleaner Q.run.setup (views_of (crew (work_of Q.beside.own) ps)) now.runs.seated
       (Q.is_about.is_run.log_only_is ∙ pages) in
       let f = found_cleaner (work_of Q.beside.own) ps c.0 c.1 c.2 in

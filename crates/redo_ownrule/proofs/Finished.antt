@@ -54,7 +54,7 @@ pub closes : {L D R : Type 0} (log_seen : L → Seen) (log_gives : L → Call �
     → length players + workers about.own_writes ≡ length (starts_about about) → AllAtRest players
     → ((i : ℕ) (a : model.Actor) → get_elem? (views_of (map actor_of slice)) i ≡ maybe.some a → IsCleaner a
     → HasPart first.me.0)
-    → (about.log_only ≡ true → HasPart first.me.0)
+    → (about.plan.log_only ≡ true → HasPart first.me.0)
     → (ws : List ℕ) (xs : List (Slot L D))
     → Final (SeenBy (Ruled log_seen log_gives data_seen data_gives about) first.id first.me.0) ws xs
     → EndsAs log_seen log_gives data_seen data_gives about about.own_writes heard players ws xs

@@ -113,12 +113,12 @@ module _ {L D R : Type 0} (log_seen : L → Seen) (log_gives : L → Call → L 
     (log_is : closed.log ≡ left.log) (store_is : closed.store ≡ left.store)
     (marks_is : ◌≡◌ {A = Marks} closed.marks left.marks) (code_is : closed.code ≡ left.code)
     (listed : ListsInOrder left.marks (views_of actors) closed.history)
-    (loss : TellsLoss about.archive (views_of actors) closed.lost) (fixed : about.live ≡ None) where
+    (loss : TellsLoss about.plan.archive (views_of actors) closed.lost) (fixed : about.live ≡ None) where
   abbrev its_run : (stands : R → List Given → Type 0) (first : Option LogWork) (starts : List (Player R))
       → is_some first ≡ own → AllZip IsSamePlayer starts ps
       → HaveHeard stands (map actor_of starts) seats (map actor_of ps)
       → LeavesWith log_seen log_gives data_seen data_gives stands about.opened.value about.script.value
-      about.log_only about.archive about.followers (crew first starts) actors closed
+      about.plan (crew first starts) actors closed
   its_run stands first starts works_first same H = record {
     run = P.run;
     is_run = fixed_run log_seen data_seen about P.run fixed P.is_about;
@@ -157,7 +157,7 @@ module _ {L D R : Type 0} (log_seen : L → Seen) (log_gives : L → Call → L 
     code = code_is ∙ P.code;
     history = its_history log_seen log_gives data_seen data_gives about all_heard (views_of actors) left P
         closed.history listed;
-    lost = its_loss P.run.setup about.archive (views_of actors) P.runs.running.both.in_run closed.lost loss;
+    lost = its_loss P.run.setup about.plan.archive (views_of actors) P.runs.running.both.in_run closed.lost loss;
   }
     where
       pair : (n : ℕ) (a b : Actor R) → get_elem? (crew first starts) n ≡ maybe.some a
@@ -171,7 +171,7 @@ module _ {L D R : Type 0} (log_seen : L → Seen) (log_gives : L → Call → L 
       → is_some first ≡ own → AllZip IsSamePlayer starts ps
       → HaveHeard stands (map actor_of starts) seats (map actor_of ps)
       → LeavesHeard log_seen log_gives data_seen data_gives stands about.opened.value about.script.value
-      about.log_only about.archive about.followers (crew first starts) actors seats closed
+      about.plan (crew first starts) actors seats closed
   leaves_players stands first starts works_first same H = record {
     by = its_run stands first starts works_first same H;
     loaded = P.loaded;

@@ -13,7 +13,7 @@ use Rattle.model_running.proofs.Seated.{user_seat}
 use Rattle.model_running.specs.ReadHalf.{ReadsInRun, StaysInRun}
 use Rattle.model_running.specs.Seated.{AreSeated}
 use Rattle.model_running.specs.Schedule.{ArePageActors}
-use Rattle.redo_drive.specs.LiveActors.{idle_users, live_actors}
+use Rattle.redo_drive.specs.LiveActors.{idle_users, live_actors, live_plan}
 use Rattle.redo_drive.specs.Setups.{other_actors}
 
 pub many_idle : (blocks users : ℕ) → length (idle_users blocks users) ≡ users
@@ -28,18 +28,18 @@ others true = 2
 others false = 5
 
 many_others : (shape : Shape) (start : ℕ) (log_only : Bool)
-    → length (other_actors shape start log_only false 0) ≡ others log_only
+    → length (other_actors shape start (live_plan log_only)) ≡ others log_only
 many_others shape start true = omega arith
 many_others shape start false = omega arith
 
 pub many_actors : (shape : Shape) (users start : ℕ) (log_only : Bool)
-    → length (live_actors shape users start log_only false 0) ≡ users + others log_only
+    → length (live_actors shape users start (live_plan log_only)) ≡ users + others log_only
 many_actors shape users start log_only =
     let idle : List UserState = idle_users (run_layout shape).blocks users in
     let u = many_idle (run_layout shape).blocks users in
     let m = length-map idle actor.User in
     let o = many_others shape start log_only in
-    let all : List Actor = other_actors shape start log_only false 0 in
+    let all : List Actor = other_actors shape start (live_plan log_only) in
     let a = length-append (map actor.User idle) all in
     let b = length-append (map actor.User idle ++ all) [] in omega arith
 

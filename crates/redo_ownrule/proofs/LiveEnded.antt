@@ -16,11 +16,12 @@ use Rattle.model_core.specs.declared.steps.UserStep.TheVariants as user_step
 use Rattle.model_running.proofs.Seated.{has_cleaner}
 use Rattle.redo_disk.specs.{Call}
 use Rattle.redo_disk.specs.Sight.{Seen}
-use Rattle.redo_drive.specs.LiveActors.{live_actors}
+use Rattle.redo_drive.specs.LiveActors.{live_actors, live_plan}
 use Rattle.redo_drive.specs.Setups.{first_reader}
 use Rattle.redo_drive.specs.History.{view_of, views_of}
 use Rattle.redo_drive.specs.declared.actor.Actor.{Actor}
 use Rattle.redo_drive.specs.declared.actor.Actor.TheVariants as actor
+use Rattle.redo_drive.specs.declared.plan.Plan.{Plan}
 use Rattle.redo_ownrule.proofs.LiveCount.{are_users, its_place, many_actors, no_others, others}
 use Rattle.redo_ownrule.proofs.LiveLeft.{leaves_live}
 use Rattle.redo_ownrule.proofs.Matched.{seated_there}
@@ -116,19 +117,17 @@ pub record EndsLive {L D R : Type 0} (log_seen : L → Seen) (log_gives : L → 
 
 -- how many actors there are
 module _ {L D : Type 0} (about : About L D) (live : Live) (is_live : about.live ≡ Some live)
-    (apart : about.archive ≡ false) (alone : about.followers ≡ 0) where
-  starts_count : length (starts_about about) ≡ live.users + others about.log_only
+    (kept : about.plan ≡ live_plan about.plan.log_only) where
+  starts_count : length (starts_about about) ≡ live.users + others about.plan.log_only
   starts_count =
       ap (λ (l : List model.Actor). length l)
       (ap (starts_with about) is_live
-      ∙ ap (λ (b : Bool). live_actors about.opened.value.shape live.users about.opened.value.start about.log_only b
-      about.followers) apart
-      ∙ ap (live_actors about.opened.value.shape live.users about.opened.value.start about.log_only false) alone)
-      ∙ many_actors about.opened.value.shape live.users about.opened.value.start about.log_only
+      ∙ ap (live_actors about.opened.value.shape live.users about.opened.value.start) kept)
+      ∙ many_actors about.opened.value.shape live.users about.opened.value.start about.plan.log_only
 
 module _ {L D R : Type 0} (log_seen : L → Seen) (log_gives : L → Call → L → Type 0) (data_seen : D → Seen)
     (data_gives : D → Call → D → Type 0) (about : About L D) (live : Live) (is_live : about.live ≡ Some live)
-    (apart : about.archive ≡ false) (alone : about.followers ≡ 0) where
+    (kept : about.plan ≡ live_plan about.plan.log_only) where
   module _ (number : ℕ → ℕ) (heard : ℕ → Heard) (ps : List (Player R)) (id : ℕ) (v : View L D) (ws : List ℕ)
       (xs : List (Slot L D)) (final : Final (SeenBy (Ruled log_seen log_gives data_seen data_gives about) id v) ws xs)
       (all : v.seats ≡ seated number heard 0 ps) (rest : AllAtRest ps)
@@ -136,7 +135,7 @@ module _ {L D R : Type 0} (log_seen : L → Seen) (log_gives : L → Call → L 
       → (i : ℕ) × (p : Player R) × (get_elem? ps i ≡ maybe.some p) × (number i ≡ n))
       (cleaner : (i : ℕ) (a : model.Actor) → get_elem? (views_of (map actor_of ps)) i ≡ maybe.some a → IsCleaner a
       → HasPart v)
-      (alone_part : about.log_only ≡ true → HasPart v) where
+      (alone_part : about.plan.log_only ≡ true → HasPart v) where
     abbrev Q : Ruled log_seen log_gives data_seen data_gives about final.0
     Q = final.1.0
 
@@ -162,14 +161,14 @@ module _ {L D R : Type 0} (log_seen : L → Seen) (log_gives : L → Call → L 
         (m.1, m.2)
 
     count : length Q.actors ≡ live.users + others Q.run.setup.log_only
-    count = Q.count ∙ starts_count about live is_live apart alone
+    count = Q.count ∙ starts_count about live is_live kept
         ∙ ap (λ (b : Bool). live.users + others b) (sym Q.is_about.is_run.log_only_is)
 
     nobody_reads : Q.run.setup.last_reader ≤ Q.run.setup.first_reader
     nobody_reads =
         let last = Q.is_about.is_run.last_reader in
-        let none = alone in
-        let first = Q.is_about.is_run.first_is ∙ ap first_reader apart in omega arith
+        let none = ap (λ (p : Plan). p.followers) kept in
+        let first = Q.is_about.is_run.first_is ∙ ap (λ (p : Plan). first_reader p.archive) kept in omega arith
 
     user_below : (n : ℕ) (a : model.Actor) → get_elem? Q.actors n ≡ maybe.some a → n < live.users
         → (u : UserState) × ◌≡◌ {A = model.Actor} a (model.User u)
@@ -209,7 +208,7 @@ module _ {L D R : Type 0} (log_seen : L → Seen) (log_gives : L → Call → L 
 
     -- and the data part is at home
     part : HasPart v
-    part = either_way about.log_only (HasPart v) alone_part (λ pages.
+    part = either_way about.plan.log_only (HasPart v) alone_part (λ pages.
         let c = has_cleaner Q.run.setup Q.actors Q.runs.seated (Q.is_about.is_run.log_only_is ∙ pages) in
         elim (dec_le (c.0 + 1) live.users) [
           | yes low ↦ (let u = user_below c.0 (model.Cleaner c.1) c.2 (omega arith) in
@@ -270,7 +269,7 @@ all_views (a ∷ actors) = ap (λ (x : model.Actor). x ∷ views_of (map as_acto
 
 module _ {L D R : Type 0} (log_seen : L → Seen) (log_gives : L → Call → L → Type 0) (data_seen : D → Seen)
     (data_gives : D → Call → D → Type 0) (about : About L D) (live : Live) (is_live : about.live ≡ Some live)
-    (no_script : about.script.value ≡ []) (apart : about.archive ≡ false) (alone : about.followers ≡ 0)
+    (no_script : about.script.value ≡ []) (kept : about.plan ≡ live_plan about.plan.log_only)
     (runnable : IsRunnable about.opened.value) (table : TableId) (seats : List (Seat (Slot L D) (View L D)))
     (players slice : List (Player R)) (is : slice ≡ players) (S : AreTheirSeats table seats players)
     (others : HaveAllFrom (users_in about.live) (length (starts_about about)) seats) (rest : AllAtRest players)
@@ -278,7 +277,7 @@ module _ {L D R : Type 0} (log_seen : L → Seen) (log_gives : L → Call → L 
     (all : first.me.0.seats ≡ seated (number_by seats) (heard_by seats) 0 slice)
     (cleaner : (i : ℕ) (a : model.Actor) → get_elem? (views_of (map actor_of slice)) i ≡ maybe.some a → IsCleaner a
     → HasPart first.me.0)
-    (alone_part : about.log_only ≡ true → HasPart first.me.0) where
+    (alone_part : about.plan.log_only ≡ true → HasPart first.me.0) where
   users_are : users_in about.live ≡ live.users
   users_are = ap users_in is_live
 
@@ -297,7 +296,7 @@ module _ {L D R : Type 0} (log_seen : L → Seen) (log_gives : L → Call → L 
       → EndsLive log_seen log_gives data_seen data_gives about live.users (number_by seats)
       (heard_by seats) players ws xs
   ends_given ws xs final =
-      ends_live log_seen log_gives data_seen data_gives about live is_live apart alone (number_by seats)
+      ends_live log_seen log_gives data_seen data_gives about live is_live kept (number_by seats)
       (heard_by seats) players first.id first.me.0 ws xs final
       (subst (λ (l : List (Player R)). first.me.0.seats ≡ seated (number_by seats) (heard_by seats) 0 l) is all) rest
       workers
@@ -307,7 +306,7 @@ module _ {L D R : Type 0} (log_seen : L → Seen) (log_gives : L → Call → L 
 
   -- WHAT IT LEAVES
   pub leaves_given : (left : Left L D) → LeavesTable log_seen log_gives data_seen data_gives about first left
-      → LeavesGiven log_seen log_gives data_seen data_gives about.opened.value about.log_only (users_in about.live)
+      → LeavesGiven log_seen log_gives data_seen data_gives about.opened.value about.plan.log_only (users_in about.live)
       seats players left
   leaves_given left T =
       let E = ends_given T.words T.slots T.final in
@@ -323,8 +322,9 @@ module _ {L D R : Type 0} (log_seen : L → Seen) (log_gives : L → Call → L 
             ∙ sym (heard_at seats i seat at));
         no_other = λ n u at. subst (λ (k : ℕ). n < k) (sym users_are) (E.no_other n u at);
         leaves = subst (λ (l : List model.Actor). LeavesLive log_seen log_gives data_seen data_gives
-            about.opened.value about.log_only l (λ n. (E.all_heard n).reads) left) same
-            (leaves_live log_seen log_gives data_seen data_gives about live is_live no_script apart runnable E.all_heard
+            about.opened.value about.plan.log_only l (λ n. (E.all_heard n).reads) left) same
+            (leaves_live log_seen log_gives data_seen data_gives about live is_live no_script
+            (ap (λ (p : Plan). p.archive) kept) runnable E.all_heard
             (map as_actor E.actors) left
             (subst (λ (l : List model.Actor). LeavesParts log_seen log_gives data_seen data_gives about E.all_heard l
             left) (sym same) (T.leaves E.all_heard E.actors E.reaches)));

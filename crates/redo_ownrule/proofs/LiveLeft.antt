@@ -84,7 +84,8 @@ kept_group marks u history are k below answered = record {
 
 module _ {L D R : Type 0} (log_seen : L → Seen) (log_gives : L → Call → L → Type 0) (data_seen : D → Seen)
     (data_gives : D → Call → D → Type 0) (about : About L D) (live : Live) (is_live : about.live ≡ Some live)
-    (no_script : about.script.value ≡ []) (apart : about.archive ≡ false) (runnable : IsRunnable about.opened.value)
+    (no_script : about.script.value ≡ []) (apart : about.plan.archive ≡ false)
+        (runnable : IsRunnable about.opened.value)
     (heard : ℕ → Heard) (actors : List (Actor R)) (left : Left L D)
     (P : LeavesParts log_seen log_gives data_seen data_gives about heard (views_of actors) left) where
   abbrev script : List ScriptLine
@@ -93,9 +94,9 @@ module _ {L D R : Type 0} (log_seen : L → Seen) (log_gives : L → Call → L 
   abbrev history : List Entry
   history = history_of P.runs.running.log_ghost.answered (word_marks P.runs.running.shared) P.runs.running.log_ghost.log
 
-  is_run : IsRunWith about.opened.value script true about.log_only about.archive about.followers P.run
+  is_run : IsRunWith about.opened.value script true about.plan P.run
   is_run = subst
-      (λ (b : Bool). IsRunWith about.opened.value script b about.log_only about.archive about.followers P.run)
+      (λ (b : Bool). IsRunWith about.opened.value script b about.plan P.run)
       (ap (λ (o : Option Live). is_some o) is_live) P.is_about.is_run
 
   room : HasRoom live about.opened.value.shape script (length (starts_about about)) P.run.setup
@@ -123,11 +124,11 @@ module _ {L D R : Type 0} (log_seen : L → Seen) (log_gives : L → Call → L 
         fits = subst (AllByRecursion (LineFits (run_shape reading.shape))) (sym no_script) tt;
       })))
 
-  loss : TellsLoss about.archive (views_of actors) None
+  loss : TellsLoss about.plan.archive (views_of actors) None
   loss = subst (λ (b : Bool). TellsLoss b (views_of actors) None) (sym apart) refl
 
   pub leaves_closed : LeavesAs log_seen log_gives data_seen data_gives (λ r l. Unit {0}) about.opened.value script true
-      about.log_only about.archive about.followers actors actors (closed_with left history)
+      about.plan actors actors (closed_with left history)
   leaves_closed = leaves_as log_seen log_gives data_seen data_gives about heard actors left P (closed_with left history)
       refl refl refl refl refl loss true script is_run begun
 
@@ -141,12 +142,12 @@ module _ {L D R : Type 0} (log_seen : L → Seen) (log_gives : L → Call → L 
       ∙ ap (λ (z : Marks). listed z (model.User u)) (sym its_marks)
 
   lines_of : (seat : ℕ) (u : UserState) → get_elem? (views_of actors) seat ≡ maybe.some (model.User u)
-      → ◌≡◌ {A = List Line} u.lines (programs_of about.opened.value.shape about.log_only script u.user)
+      → ◌≡◌ {A = List Line} u.lines (programs_of about.opened.value.shape about.plan.log_only script u.user)
   lines_of seat u at =
       let fits : UserFits (run_log_side log_seen data_seen P.run) P.run.setup P.runs.running.shared
       P.runs.running.log_ghost P.last.log seat u = P.runs.running.both.logged.each seat (model.User u) at in
       let S = is_run.of_script in
-      own_lines about.log_only about.opened.value.shape u.lines (lines_of_user u.user script)
+      own_lines about.plan.log_only about.opened.value.shape u.lines (lines_of_user u.user script)
       (ap length fits.lines ∙ S.count u.user)
       (λ k one there. ap (λ (ls : List Line). line_at ls k) fits.lines ∙ S.each u.user k one there
       ∙ ap (λ (b : Bool). let l : Line = line_of b about.opened.value.shape one.mode
@@ -160,7 +161,7 @@ module _ {L D R : Type 0} (log_seen : L → Seen) (log_gives : L → Call → L 
   IsOf = IsReadEndOf about.opened.value.pages (wholes_of script about.opened.value.shape.space history) left.code
 
   -- A PAGE THAT WAS READ is the page as of its lsn, and where a read has met a failure the run leaves a code
-  is_of : about.log_only ≡ false → (r : ReadEnd)
+  is_of : about.plan.log_only ≡ false → (r : ReadEnd)
       → ReadEndFits P.run.setup P.last.words.words P.runs.running.log_ghost.log r → IsOf r
   is_of with_pages (Page r) o = let W = P.runs.running in
       read_as_of (run_log_side log_seen data_seen P.run) (run_data_side log_seen data_seen P.run) P.run.setup
@@ -169,13 +170,13 @@ module _ {L D R : Type 0} (log_seen : L → Seen) (log_gives : L → Call → L 
       (is_run.log_only_is ∙ with_pages) P.last.words.words r o
   is_of with_pages (Failed code) o = (o.0, subst (λ (n : ℕ). 0 < n) (sym P.code) o.1)
 
-  all_of : about.log_only ≡ false → (rs : List ReadEnd)
+  all_of : about.plan.log_only ≡ false → (rs : List ReadEnd)
       → AreRead P.run.setup P.last.words.words P.runs.running.log_ghost.log rs → AllByRecursion IsOf rs
   all_of with_pages [] all = tt
   all_of with_pages (r ∷ rs) all = (is_of with_pages r all.0, all_of with_pages rs all.1)
 
   -- WHAT IT LEAVES
-  pub leaves_live : LeavesLive log_seen log_gives data_seen data_gives about.opened.value about.log_only
+  pub leaves_live : LeavesLive log_seen log_gives data_seen data_gives about.opened.value about.plan.log_only
       (views_of actors) (λ n. (heard n).reads) left
   leaves_live = record {
     script = script;
@@ -189,11 +190,11 @@ module _ {L D R : Type 0} (log_seen : L → Seen) (log_gives : L → Call → L 
     is_kept = λ seat u at k below answered. kept_group left.marks u history (groups seat u at) k below answered;
     are_read = λ with_pages n. all_of with_pages (heard n).reads (P.reads n).done;
     is_run = left_run.is_run log_seen log_gives data_seen data_gives (λ r l. Unit {0}) about.opened.value script
-        about.log_only about.followers actors actors (done_with (closed_with left history)) leaves_closed;
+        about.plan actors actors (done_with (closed_with left history)) leaves_closed;
     owed = owes_as log_seen log_gives data_seen data_gives about heard actors left P (closed_with left history)
         refl refl refl refl refl loss true script is_run begun runnable;
     reaches = reaches_all log_seen log_gives data_seen data_gives (λ r l. Unit {0}) about.opened.value script
-        about.log_only about.archive about.followers actors actors (closed_with left history) leaves_closed;
+        about.plan actors actors (closed_with left history) leaves_closed;
     cause = code_has_cause log_seen log_gives data_seen data_gives (λ r l. Unit {0}) about.opened.value script
-        about.log_only about.archive about.followers actors actors (closed_with left history) leaves_closed;
+        about.plan actors actors (closed_with left history) leaves_closed;
   }

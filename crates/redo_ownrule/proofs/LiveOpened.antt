@@ -22,7 +22,7 @@ use Rattle.redo_disk.specs.Sight.{Seen}
 use Rattle.redo_drive.proofs.Viewed.{length_views}
 use Rattle.redo_drive.specs.Begins.{BeginsLive}
 use Rattle.redo_drive.specs.Lists.{AreLists}
-use Rattle.redo_drive.specs.LiveActors.{live_actors}
+use Rattle.redo_drive.specs.LiveActors.{live_actors, live_plan}
 use Rattle.redo_drive.specs.History.{views_of}
 use Rattle.redo_drive.specs.declared.actor.Actor.{Actor}
 use Rattle.redo_drive.specs.declared.making.Beginning.{Beginning}
@@ -69,8 +69,8 @@ base_is base start is = ap sn_of (sym is ∙ lsn_is base) ∙ sn_back base
 module _ {L D R : Type 0} (log_seen : L → Seen) (log_gives : L → Call → L → Type 0) (data_seen : D → Seen)
     (data_gives : D → Call → D → Type 0) (stands : R → List Given → Type 0) (about : About L D) (live : Live)
     (alive : about.live ≡ Some live) (no_lines : about.script.value ≡ []) (plain : about.own_writes ≡ false)
-    (kept : about.archive ≡ false) (alone : about.followers ≡ 0) (start : Beginning L D R)
-    (B : BeginsLive log_seen data_seen stands about.opened.value live.users about.log_only start)
+    (kept : about.plan ≡ live_plan about.plan.log_only) (start : Beginning L D R)
+    (B : BeginsLive log_seen data_seen stands about.opened.value live.users about.plan.log_only start)
     (short : lsn (B.run.setup.base + length (starts_about about) * live.quota) < LSN_LIMIT)
     (staff : Staff R) (S : AreStaffOf false start.actors.items staff) where
   abbrev ps : List (Player R)
@@ -80,18 +80,16 @@ module _ {L D R : Type 0} (log_seen : L → Seen) (log_gives : L → Call → L 
   actors = views_of start.actors.items
 
   -- the actors with which the run begins
-  abbrev firsts : (b : Bool) → List model.Actor
-  firsts b = live_actors about.opened.value.shape live.users about.opened.value.start b false 0
+  abbrev firsts : List model.Actor
+  firsts = live_actors about.opened.value.shape live.users about.opened.value.start (live_plan about.plan.log_only)
 
-  pub actors_are : ◌≡◌ {A = List model.Actor} actors (firsts about.log_only)
-  actors_are = B.stands.are_new ∙ ap firsts B.is_run.log_only_is
+  pub actors_are : ◌≡◌ {A = List model.Actor} actors firsts
+  actors_are = B.stands.are_new
 
   pub starts_are : ◌≡◌ {A = List model.Actor} (starts_about about) actors
   starts_are =
       ap (starts_with about) alive
-      ∙ ap (λ (b : Bool). live_actors about.opened.value.shape live.users about.opened.value.start about.log_only b
-      about.followers) kept
-      ∙ ap (live_actors about.opened.value.shape live.users about.opened.value.start about.log_only false) alone
+      ∙ ap (live_actors about.opened.value.shape live.users about.opened.value.start) kept
       ∙ sym actors_are
 
   -- and they are those of the players
@@ -119,7 +117,7 @@ module _ {L D R : Type 0} (log_seen : L → Seen) (log_gives : L → Call → L 
       → ws ≡ start.parts.words.words
       → ◌≡◌ {A = List (Slot L D)} xs (opens.slots_of start.parts (record { block = block; own = None }))
       → Ruled log_seen log_gives data_seen data_gives about (opening ws xs (first_view about))
-  opens_so = opens_live log_seen log_gives data_seen data_gives stands about live alive no_lines plain kept alone start
+  opens_so = opens_live log_seen log_gives data_seen data_gives stands about live alive no_lines plain kept start
       B short
 
   -- NO PLAYER HAS ITS SEAT YET
@@ -199,7 +197,7 @@ module _ {L D R : Type 0} (log_seen : L → Seen) (log_gives : L → Call → L 
           (let n = many in let w = ap workers plain in omega arith);
       one_cleaner = λ i j a b at bt is jt. starts i a at is ∙ sym (starts j b bt jt);
       no_cleaner = λ only i a at is. none_there B.run.setup actors B.from.runs.seated
-          (B.is_run.log_only_is ∙ sym (ap (λ (z : About L D). z.log_only) key) ∙ only) i a (placed_at i a at) is;
+          (B.is_run.log_only_is ∙ sym (ap (λ (z : About L D). z.plan.log_only) key) ∙ only) i a (placed_at i a at) is;
       first = first_is;
       layout = ap (λ (v : View L D). v.layout) view ∙ sym laid;
       told = ap (λ (v : View L D). v.about) view ∙ ap Some (sym key);
@@ -212,25 +210,25 @@ module _ {L D R : Type 0} (log_seen : L → Seen) (log_gives : L → Call → L 
 
 -- what is told of a live run, as its table is told
 module _ {L D R : Type 0} (log_seen : L → Seen) (data_seen : D → Seen) (stands : R → List Given → Type 0)
-    (about : About L D) (live : Live) (alive : about.live ≡ Some live) (kept : about.archive ≡ false)
-    (alone : about.followers ≡ 0) (opened : Opened L D) (opened_is : about.opened.value ≡ opened)
-    (start : Beginning L D R) (B : BeginsLive log_seen data_seen stands opened live.users about.log_only start) where
-  pub about_live : BeginsLive log_seen data_seen stands about.opened.value live.users about.log_only start
-  about_live = subst (λ (o : Opened L D). BeginsLive log_seen data_seen stands o live.users about.log_only start)
+    (about : About L D) (live : Live) (alive : about.live ≡ Some live)
+    (kept : about.plan ≡ live_plan about.plan.log_only) (opened : Opened L D) (opened_is : about.opened.value ≡ opened)
+    (start : Beginning L D R) (B : BeginsLive log_seen data_seen stands opened live.users about.plan.log_only start)
+        where
+  pub about_live : BeginsLive log_seen data_seen stands about.opened.value live.users about.plan.log_only start
+  about_live = subst (λ (o : Opened L D). BeginsLive log_seen data_seen stands o live.users about.plan.log_only start)
       (sym opened_is) B
 
   starts_count : length (starts_about about)
-      ≡ length (live_actors opened.shape live.users opened.start about.log_only false 0)
+      ≡ length (live_actors opened.shape live.users opened.start (live_plan about.plan.log_only))
   starts_count =
       ap (λ (l : List model.Actor). length l)
       (ap (starts_with about) alive
-      ∙ ap (λ (b : Bool). live_actors about.opened.value.shape live.users about.opened.value.start about.log_only b
-      about.followers) kept
-      ∙ ap (live_actors about.opened.value.shape live.users about.opened.value.start about.log_only false) alone
-      ∙ ap (λ (o : Opened L D). live_actors o.shape live.users o.start about.log_only false 0) opened_is)
+      ∙ ap (live_actors about.opened.value.shape live.users about.opened.value.start) kept
+      ∙ ap (λ (o : Opened L D). live_actors o.shape live.users o.start (live_plan about.plan.log_only)) opened_is)
 
   pub about_short : lsn (sn_of opened.start
-      + length (live_actors opened.shape live.users opened.start about.log_only false 0) * live.quota) < LSN_LIMIT
+      + length (live_actors opened.shape live.users opened.start (live_plan about.plan.log_only)) * live.quota)
+          < LSN_LIMIT
       → lsn (about_live.run.setup.base + length (starts_about about) * live.quota) < LSN_LIMIT
   about_short low =
       subst (λ (n : ℕ). lsn (n + length (starts_about about) * live.quota) < LSN_LIMIT)

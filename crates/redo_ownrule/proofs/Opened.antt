@@ -77,10 +77,9 @@ player_at (p ∷ ps) (suc i) a at = player_at ps i a at
 
 module _ {L D R : Type 0} (log_seen : L → Seen) (data_seen : D → Seen) (stands : R → List Given → Type 0)
     (about : About L D) (fixed : about.live ≡ None) (followers : List (Following R))
-    (many : about.followers ≡ length followers) (start : Beginning L D R)
-    (B : BeginsWith log_seen data_seen stands about.opened.value about.script.value about.log_only about.archive followers
-    start)
-    (may : MayBegin about.opened.value about.script.value about.log_only) (staff : Staff R)
+    (start : Beginning L D R)
+    (B : BeginsWith log_seen data_seen stands about.opened.value about.script.value about.plan followers start)
+    (may : MayBegin about.opened.value about.script.value about.plan.log_only) (staff : Staff R)
     (S : AreStaffOf about.own_writes start.actors.items staff) where
   abbrev ps : List (Player R)
   ps = staff.players.items
@@ -92,7 +91,7 @@ module _ {L D R : Type 0} (log_seen : L → Seen) (data_seen : D → Seen) (stan
   crew_is = ap (λ (l : List (Actor R)). views_of l) (sym S.are)
 
   pub starts_are : ◌≡◌ {A = List model.Actor} (starts_about about) (views_of (crew staff.work ps))
-  starts_are = sym (opens.are log_seen data_seen stands about fixed followers many start B) ∙ crew_is
+  starts_are = sym (opens.are log_seen data_seen stands about fixed followers start B) ∙ crew_is
 
   first_is_seated : ◌≡◌ {A = List Numbered} (first_view about).seats
       (seated (place about.own_writes ps) none_heard 0 ps)
@@ -112,7 +111,7 @@ module _ {L D R : Type 0} (log_seen : L → Seen) (data_seen : D → Seen) (stan
       sym (same_crew k ps first) ∙ are in record {
         others = views_of (plain_actors ps);
         are = ap (λ (l : List (Actor R)). views_of l) (sym same) ∙ crew_views k (own_users ps) (plain_actors ps);
-        errands = (own_begins.runs log_seen data_seen stands about.opened.value about.script.value about.log_only
+        errands = (own_begins.runs log_seen data_seen stands about.opened.value about.script.value about.plan
             followers start B may (own_users ps) k (plain_actors ps) same (users_home ps S.at_home)).errands;
       }
 
@@ -131,7 +130,7 @@ module _ {L D R : Type 0} (log_seen : L → Seen) (data_seen : D → Seen) (stan
       (opens.slots_of start.parts (record { block = block; own = side_of staff.work ps }))
       → Ruled log_seen log_gives data_seen data_gives about (opening ws xs (first_view about))
   opens_players log_gives data_gives lists_are block ws xs words slots =
-      opens.opens_ok log_seen log_gives data_seen data_gives stands about fixed followers many start B lists_are
+      opens.opens_ok log_seen log_gives data_seen data_gives stands about fixed followers start B lists_are
       (record { block = block; own = side_of staff.work ps })
       (sym S.works ∙ sym (side_is staff.work ps)) (works about.own_writes staff.work S.works S.order S.are)
       stand ws xs words slots
@@ -162,7 +161,7 @@ module _ {L D R : Type 0} (log_seen : L → Seen) (data_seen : D → Seen) (stan
       empty = ap (λ (v : View L D). v.held) view;
       rest = λ i y e.
           let there = stand i y (ap (λ (v : View L D). get_elem? v.seats i) (sym view) ∙ e) in (
-            opens.fresh log_seen data_seen stands about fixed followers many start B y.number y.actor there.here,
+            opens.fresh log_seen data_seen stands about fixed followers start B y.number y.actor there.here,
             there.idle,
           );
       home = λ d has. sym (ap (λ (o : Option (Keeping D)). opens.is_out o)
@@ -179,7 +178,7 @@ module _ {L D R : Type 0} (log_seen : L → Seen) (data_seen : D → Seen) (stan
     fit : length (starts_about about) ≤ vec_capacity shared.actors
     fit =
         let s = ap (λ (l : List model.Actor). length l)
-        (sym (opens.are log_seen data_seen stands about fixed followers many start B)) in
+        (sym (opens.are log_seen data_seen stands about fixed followers start B)) in
         let m = length_views start.actors.items in
         let r = S.room in
         let same = ap vec_capacity room_is in omega arith
@@ -205,7 +204,7 @@ module _ {L D R : Type 0} (log_seen : L → Seen) (data_seen : D → Seen) (stan
     unseated = record {
       ready = record {
         runnable = subst (λ (z : About L D). IsRunnable z.opened.value) (sym key) may.runnable;
-        may = λ _. subst (λ (z : About L D). MayBegin z.opened.value z.script.value z.log_only) (sym key) may;
+        may = λ _. subst (λ (z : About L D). MayBegin z.opened.value z.script.value z.plan.log_only) (sym key) may;
         no_entries = no_entries;
         room = λ _. subst (λ (z : About L D). length z.script.value ≤ vec_capacity shared.entries) (sym key) room;
         no_actors = subst (λ (v : Vec (Actor R) Global). v.items ≡ []) (sym room_is) S.empty;
@@ -216,7 +215,7 @@ module _ {L D R : Type 0} (log_seen : L → Seen) (data_seen : D → Seen) (stan
       one_cleaner = λ i j a b at bt is jt.
           places_apart about.own_writes ps i j (starts i a at is ∙ sym (starts j b bt jt));
       no_cleaner = λ alone i a at is. none_there B.run.setup actors B.from.runs.seated
-          (B.is_run.log_only_is ∙ sym (ap (λ (z : About L D). z.log_only) key) ∙ alone)
+          (B.is_run.log_only_is ∙ sym (ap (λ (z : About L D). z.plan.log_only) key) ∙ alone)
           (place about.own_writes ps i) a (placed_at i a at) is;
       first = first_is;
       layout = ap (λ (v : View L D). v.layout) view ∙ sym laid;

@@ -153,11 +153,11 @@ module _ {L D : Type 0} (log_seen : L → Seen) (log_gives : L → Call → L �
   seats = record { users = side.users; work = side.work; others = worked.others }
 
   -- the same run, by the list of its users, of the log's work and of the others
-  abbrev by_seats : RunsSo log_seen data_seen about.archive R.run R.parts R.heard (actors_of seats)
-  by_seats = subst (RunsSo log_seen data_seen about.archive R.run R.parts R.heard) worked.are
+  abbrev by_seats : RunsSo log_seen data_seen about.plan.archive R.run R.parts R.heard (actors_of seats)
+  by_seats = subst (RunsSo log_seen data_seen about.plan.archive R.run R.parts R.heard) worked.are
       (record { runs = R.runs; hears = R.hears; reads = R.reads; loaded = R.loaded })
 
-  abbrev pub before : OwnRunsWith log_seen data_seen R.run about.archive R.parts seats
+  abbrev pub before : OwnRunsWith log_seen data_seen R.run about.plan.archive R.parts seats
   before = record { runs = by_seats.runs; errands = worked.errands }
 
   in_actors : (n : ℕ) (a : model.Actor) → get_elem? (actors_of seats) n ≡ maybe.some a
@@ -211,7 +211,7 @@ module _ {L D : Type 0} (log_seen : L → Seen) (log_gives : L → Call → L �
       ends = refl;
     }
 
-    abbrev pub runs_behind : OwnRunsWith log_seen data_seen R.run about.archive new after
+    abbrev pub runs_behind : OwnRunsWith log_seen data_seen R.run about.plan.archive new after
     runs_behind = turned.runs_then log_seen data_seen R.run R.parts new seats after x.number r
         (own_step_of o side.work r) same (inl turn) before
 

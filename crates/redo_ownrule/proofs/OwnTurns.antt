@@ -99,7 +99,7 @@ module _ {L D : Type 0} (log_seen : L → Seen) (log_gives : L → Call → L �
   abbrev pub seats : OwnSeats
   seats = turns.seats log_seen log_gives data_seen data_gives about s R id v x one at side own_is o there
 
-  abbrev pub before : OwnRunsWith log_seen data_seen R.run about.archive R.parts seats
+  abbrev pub before : OwnRunsWith log_seen data_seen R.run about.plan.archive R.parts seats
   before = turns.before log_seen log_gives data_seen data_gives about s R id v x one at side own_is o there
 
   pub serves : MayServeUser R.parts o work
@@ -216,7 +216,7 @@ module _ {L D : Type 0} (log_seen : L → Seen) (log_gives : L → Call → L �
     after = turns.after log_seen log_gives data_seen data_gives about s R id v x one at side own_is o there r new same
         played block
 
-    abbrev pub runs_behind : OwnRunsWith log_seen data_seen R.run about.archive new after
+    abbrev pub runs_behind : OwnRunsWith log_seen data_seen R.run about.plan.archive new after
     runs_behind = turns.runs_behind log_seen log_gives data_seen data_gives about s R id v x one at side own_is o there r
         new same played block
 

@@ -1,5 +1,5 @@
 -- What a run leaves of its actors, with what their seats have heard.
-use Rattle.std.specs.Prelude.{Bool, List, ℕ, ◌≡◌}
+use Rattle.std.specs.Prelude.{List, ℕ, ◌≡◌}
 use Rattle.std.specs.List.{AllByRecursion}
 use lib.ListN.{get_elem?}
 use mathlib.Core.Option.{some}
@@ -11,6 +11,7 @@ use Rattle.redo_drive.specs.Leaving.{LeavesWith}
 use Rattle.redo_drive.specs.{run_log_side, views_of}
 use Rattle.redo_drive.specs.declared.actor.Actor.{Actor}
 use Rattle.redo_drive.specs.declared.closed.Closed.{Closed}
+use Rattle.redo_drive.specs.declared.plan.Plan.{Plan}
 use Rattle.redo_rule.specs.Handing.{HaveLoaded, IsOfRun}
 use Rattle.redo_rule.specs.Mine.{heard_of}
 use Rattle.redo_rule.specs.declared.law.Slot.{Slot}
@@ -21,9 +22,9 @@ use Rattle.redo_store.specs.declared.opened.Opened.{Opened}
 -- and where the log device tells, the blocks that a seat has heard of are the run's.
 pub record LeavesHeard {L D R : Type 0} (log_seen : L → Seen) (log_gives : L → Call → L → Type 0) (data_seen : D → Seen)
     (data_gives : D → Call → D → Type 0) (stands : R → List Given → Type 0) (opened : Opened L D) (script : List ScriptLine)
-    (log_only archive : Bool) (followers : ℕ) (starts actors : List (Actor R)) (seats : List (Seat (Slot L D) (View L D)))
+    (plan : Plan) (starts actors : List (Actor R)) (seats : List (Seat (Slot L D) (View L D)))
     (closed : Closed L D) : Type 0 where
-  pub by : LeavesWith log_seen log_gives data_seen data_gives stands opened script log_only archive followers starts actors closed
+  pub by : LeavesWith log_seen log_gives data_seen data_gives stands opened script plan starts actors closed
   pub loaded : HaveLoaded by.last.words.words (views_of actors)
   pub blocks : (run_log_side log_seen data_seen by.run).Tells by.last.log → (i : ℕ) (seat : Seat (Slot L D) (View L D))
       → get_elem? seats i ≡ some seat

@@ -2,7 +2,7 @@
 use Rattle.std.specs.Prelude.{Bool, List, Option, Some, [], false, map, ◌≡◌}
 use Rattle.model_core.specs.States as model
 use Rattle.model_core.specs.declared.words.Layout.{Layout}
-use Rattle.redo_drive.specs.LiveActors.{live_actors}
+use Rattle.redo_drive.specs.LiveActors.{live_actors, live_plan}
 use Rattle.redo_drive.specs.History.{views_of}
 use Rattle.redo_ownrule.specs.Players.{actor_of}
 use Rattle.redo_ownrule.specs.Sharing.{IsUnseated, key_of, opened_of, own_of, shared_script}
@@ -19,11 +19,9 @@ pub record IsNewlyLive {L D R : Type 0} (opened : Opened L D) (live : Live) (log
   pub opened_is : opened_of shared ≡ opened
   pub is_live : ◌≡◌ {A = Option Live} (key_of shared).live (Some live)
   pub no_script : shared_script shared ≡ []
-  pub log_only_is : (key_of shared).log_only ≡ log_only
+  pub plan_is : (key_of shared).plan ≡ live_plan log_only
   pub own_is : own_of shared ≡ false
-  pub archive_is : (key_of shared).archive ≡ false
-  pub followers_are : (key_of shared).followers ≡ 0
   pub layout_is : ◌≡◌ {A = Layout} shared.layout (shape_layout opened.shape)
   pub actors_are : ◌≡◌ {A = List model.Actor} (views_of (map actor_of players))
-      (live_actors opened.shape live.users opened.start log_only false 0)
+      (live_actors opened.shape live.users opened.start (live_plan log_only))
   pub unseated : IsUnseated shared players

@@ -132,10 +132,10 @@ module _ {L D : Type 0} (log_seen : L → Seen) (data_seen : D → Seen) where
     pub is_about : IsRunAbout log_seen data_seen about run
     pub old : Parts L D
     pub seats : OwnSeats
-    pub runs : OwnRunsWith log_seen data_seen run about.archive old seats
+    pub runs : OwnRunsWith log_seen data_seen run about.plan.archive old seats
     pub new : Parts L D
     pub after : OwnSeats
-    pub runs_on : OwnRunsWith log_seen data_seen run about.archive new after
+    pub runs_on : OwnRunsWith log_seen data_seen run about.plan.archive new after
     pub at : get_elem? seats.users number ≡ some o
     pub work : seats.work ≡ k
     -- where its errand gives the log part back after a failed call, its code is one that the part has

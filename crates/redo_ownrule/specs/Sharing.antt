@@ -8,8 +8,10 @@ use Rattle.model_core.specs.States as model
 use Rattle.model_own.specs.{LogWork}
 use Rattle.model_script.specs.declared.script.ScriptLine.{ScriptLine}
 use Rattle.redo_drive.specs.Begins.{EndsWithReaders}
+use Rattle.redo_drive.specs.LiveActors.{live_plan}
 use Rattle.redo_drive.specs.{MayBegin, views_of}
 use Rattle.redo_drive.specs.declared.actor.Actor.{Actor}
+use Rattle.redo_drive.specs.declared.plan.Plan.{Plan}
 use Rattle.redo_follow.specs.Following.{Following}
 use Rattle.redo_ownrule.specs.Players.{actor_of, AreInOrder, crew, IsAtRest, place, seated, workers}
 use Rattle.redo_ownrule.specs.Playing.{IsPlayerSeat}
@@ -72,14 +74,13 @@ module _ {L D R : Type 0} where
     pub live : Live
     pub is_live : shared.board.shared.key.live ≡ Some live
     pub no_script : shared_script shared ≡ []
-    pub apart : shared.board.shared.key.archive ≡ false
-    pub alone : shared.board.shared.key.followers ≡ 0
+    pub plan_is : shared.board.shared.key.plan ≡ live_plan shared.board.shared.key.plan.log_only
 
   -- A run can start on the store, and there is room for the actors that it leaves. Where its script was told, that may begin,
   -- and there is room for its history.
   pub record HasRoomToBegin (shared : Shared L D R) : Type 0 where
     pub runnable : IsRunnable (opened_of shared)
-    pub may : IsFixed shared → MayBegin (opened_of shared) (shared_script shared) shared.board.shared.key.log_only
+    pub may : IsFixed shared → MayBegin (opened_of shared) (shared_script shared) shared.board.shared.key.plan.log_only
     pub no_entries : shared.entries.items ≡ []
     pub room : IsFixed shared → length (shared_script shared) ≤ vec_capacity shared.entries
     pub no_actors : shared.actors.items ≡ []
@@ -91,7 +92,7 @@ module _ {L D R : Type 0} where
     pub order : AreInOrder (own_of shared) players
     pub count : length players + workers (own_of shared) ≡ length (starts_of shared)
     pub one_cleaner : HasOneCleaner (views_of (map actor_of players))
-    pub no_cleaner : shared.board.shared.key.log_only ≡ true → (i : ℕ) (a : model.Actor)
+    pub no_cleaner : shared.board.shared.key.plan.log_only ≡ true → (i : ℕ) (a : model.Actor)
         → get_elem? (views_of (map actor_of players)) i ≡ some a → IsCleaner a → ⊥
     pub first : IsFirst (table_of shared) shared.first
     pub told : shared.first.me.0.about ≡ Some shared.board.shared.key
@@ -101,21 +102,20 @@ module _ {L D R : Type 0} where
     pub has_room : IsSome shared.seats
     pub seats_fit : IfSome shared.seats (λ v. (v.items ≡ []) × (length players ≤ vec_capacity v))
 
-  -- The store is shared as the run of this script on this opened store begins, with these followers; where `own_writes` is
-  -- set its users write for themselves, and where `archive` is it has an archiver. With the log's work as it begins the players are all actors of the run.
-  pub record IsNewlyShared (opened : Opened L D) (script : List ScriptLine) (log_only own_writes archive : Bool)
+  -- The store is shared as the run of this script on this opened store begins, by this plan, with these followers; where
+  -- `own_writes` is set its users write for themselves. With the log's work as it begins the players are all actors of the run.
+  pub record IsNewlyShared (opened : Opened L D) (script : List ScriptLine) (plan : Plan) (own_writes : Bool)
       (followers : List (Following R)) (shared : Shared L D R) (players : List (Player R)) : Type 0 where
     pub opened_is : opened_of shared ≡ opened
     pub script_is : shared_script shared ≡ script
-    pub log_only_is : shared.board.shared.key.log_only ≡ log_only
+    pub plan_is : shared.board.shared.key.plan ≡ plan
     pub own_is : own_of shared ≡ own_writes
-    pub archive_is : shared.board.shared.key.archive ≡ archive
-    pub followers_are : shared.board.shared.key.followers ≡ length followers
+    pub followers_are : shared.board.shared.key.plan.followers ≡ length followers
     pub fixed : IsFixed shared
     pub work : Option LogWork
     pub works : is_some work ≡ own_writes
     pub actors_are : starts_of shared ≡ views_of (crew work players)
-    pub readers : EndsWithReaders opened.start archive (crew work players) followers
+    pub readers : EndsWithReaders opened.start plan.archive (crew work players) followers
     pub unseated : IsUnseated shared players
 
   -- EACH PLAYER HAS ITS SEAT. Where the log runs alone the first seat keeps the data part.
@@ -123,4 +123,4 @@ module _ {L D R : Type 0} where
     pub ready : HasRoomToBegin shared
     pub first : IsFirst (table_of shared) shared.first
     pub none : shared.first.me.0.seats ≡ []
-    pub alone : shared.board.shared.key.log_only ≡ true → HasPart shared.first.me.0
+    pub alone : shared.board.shared.key.plan.log_only ≡ true → HasPart shared.first.me.0

@@ -38,14 +38,14 @@ impl<L: Sectors, D: Sectors, R: Receiver + Drop> Shared<L, D, R> {
         requires order { AreInOrder (own_of self) players.items }
         requires all { length players.items + workers (own_of self) ≡ length (starts_of self) }
         requires rest { AllAtRest players.items }
-        requires lost { TellsLoss self.board.shared.key.archive (views_of (map actor_of players.items)) lost }
+        requires lost { TellsLoss self.board.shared.key.plan.archive (views_of (map actor_of players.items)) lost }
         ensures actors { AreActorsOf (own_of self) players.items result.1.items }
         ensures rest { HoldNothing (views_of result.1.items) }
         ensures leaves { (work : Option LogWork) (starts : List (ThePlayer R)) → is_some work ≡ own_of self
             → AllZip IsSamePlayer starts players.items
             → HaveHeard R.stands_for (map actor_of starts) seats.items (map actor_of players.items)
-            → LeavesHeard L.seen L.gives D.seen D.gives R.stands_for (opened_of self) (shared_script self) self.board.shared.key.log_only
-            self.board.shared.key.archive self.board.shared.key.followers (crew work starts) result.1.items seats.items result.0 }
+            → LeavesHeard L.seen L.gives D.seen D.gives R.stands_for (opened_of self) (shared_script self) self.board.shared.key.plan
+            (crew work starts) result.1.items seats.items result.0 }
         ensures listed { ListsInOrder result.0.marks (views_of result.1.items) result.0.history }
         ensures owed { IsOwedRun L.seen L.gives D.seen D.gives (opened_of self) (shared_script self) (views_of result.1.items) result.0 }
         ensures reaches { ReachesAll (views_of result.1.items) result.0 }

@@ -27,7 +27,7 @@ impl<L: Sectors, D: Sectors, R: Receiver + Drop> Shared<L, D, R> {
         requires seats { AreTheirSeats (table_of self) seats.items players.items }
         requires others { HaveAllFrom (user_count self) (length (starts_of self)) seats.items }
         requires rest { AllAtRest players.items }
-        ensures { LeavesGiven L.seen L.gives D.seen D.gives (opened_of self) self.board.shared.key.log_only (user_count self)
+        ensures { LeavesGiven L.seen L.gives D.seen D.gives (opened_of self) self.board.shared.key.plan.log_only (user_count self)
             seats.items players.items result }
     {
         let Shared {

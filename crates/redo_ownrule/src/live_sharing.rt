@@ -1,10 +1,10 @@
 // A live store that its players share.
-ghost use Rattle.std.specs.Prelude.{◌≡◌, ◌≤◌, ◌<◌, ◌+◌, ◌*◌, IfErr, IfOk, false, length};
+ghost use Rattle.std.specs.Prelude.{◌≡◌, ◌≤◌, ◌<◌, ◌+◌, ◌*◌, IfErr, IfOk, length};
 ghost use Rattle.model_base.specs.declared.limits.TheConstants.{LSN_LIMIT};
 ghost use Rattle.model_core.specs.{lsn};
 ghost use Rattle.model_log.specs.{sn_of};
 ghost use Rattle.model_script.specs.declared.misfit.TheConstants.{MAX_USERS};
-ghost use Rattle.redo_drive.specs.LiveActors.{live_actors};
+ghost use Rattle.redo_drive.specs.LiveActors.{live_actors, live_plan};
 ghost use Rattle.redo_ownrule.specs.LiveSharing.{IsNewlyLive};
 ghost use Rattle.redo_store.specs.{IsRunnable};
 
@@ -13,7 +13,7 @@ use crate::shared::Shared;
 use crate::staffing::{Staff, take_plain};
 use model_script::Script;
 use redo_disk::Sectors;
-use redo_drive::{Beginning, Parts, begin_live};
+use redo_drive::{Beginning, Parts, Plan, begin_live};
 use redo_follow::Receiver;
 use redo_lsn::NoMemory;
 use redo_rule::{About, Live, lay_out, make_board, parts_in};
@@ -37,10 +37,15 @@ impl<L: Sectors, D: Sectors, R: Receiver + Drop> Shared<L, D, R> {
         requires below { opened.start < LSN_LIMIT }
         requires some { 0 < users }
         requires most { users ≤ MAX_USERS }
-        requires short { lsn (sn_of opened.start + length (live_actors opened.shape users opened.start log_only false 0) * quota) < LSN_LIMIT }
+        requires short { lsn (sn_of opened.start + length (live_actors opened.shape users opened.start (live_plan log_only)) * quota) < LSN_LIMIT }
         ensures err { IfErr result (λ error. (error.1 ≡ opened.log.dev) × (error.2 ≡ opened.store.dev)) }
         ensures new { IfOk result (λ made. IsNewlyLive opened (record { users = users; quota = quota }) log_only made.0 made.1.items) }
     {
+        let plan = Plan {
+            log_only,
+            archive: false,
+            followers: 0,
+        };
         let layout = Layout {
             pages: opened.shape.pages,
             page_size: opened.shape.page_size,
@@ -56,9 +61,7 @@ impl<L: Sectors, D: Sectors, R: Receiver + Drop> Shared<L, D, R> {
             opened: opened_is,
             script: Snapshot::of(&no_lines),
             live: Some(Live { users, quota }),
-            log_only,
-            archive: false,
-            followers: 0,
+            plan,
             own_writes: false,
         };
         let Parts {

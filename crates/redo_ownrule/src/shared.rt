@@ -1,6 +1,6 @@
 // A store that its players share, each in a thread of its own.
 ghost use Rattle.std.specs.Prelude.{◌≡◌, IfErr, IfOk};
-ghost use Rattle.redo_drive.specs.{AreNewFollowers, MayBegin};
+ghost use Rattle.redo_drive.specs.{HasNewFollowers, MayBegin};
 ghost use Rattle.redo_ownrule.specs.Sharing.{IsNewlyShared};
 
 use crate::player::Player;
@@ -8,7 +8,7 @@ use crate::staffing::{Staff, take_staff};
 use model_report::Entry;
 use model_script::Script;
 use redo_disk::Sectors;
-use redo_drive::{Actor, Beginning, Parts, begin_run_with};
+use redo_drive::{Actor, Beginning, Parts, Plan, begin_run_with};
 use redo_follow::{Follower, Receiver};
 use redo_lsn::NoMemory;
 use redo_rule::{About, Board, Ring, Seat, lay_out, make_board, parts_in};
@@ -33,41 +33,37 @@ pub struct Shared<L: Sectors, D: Sectors, R: Receiver> {
 }
 
 impl<L: Sectors, D: Sectors, R: Receiver + Drop> Shared<L, D, R> {
-    /// The store as the run of a script begins, with the log alone or with the pages, and its players, an archiver, if it is
-    /// archived, and these followers among them, none of which has a seat yet. Where `own_writes` is set its users write for themselves. It takes all memory; where
-    /// there is none it gives both devices back as they were.
+    /// The store as the run of a script begins, by this plan, and its players, an archiver, if it is archived, and these followers
+    /// among them, none of which has a seat yet. Where `own_writes` is set its users write for themselves. It takes all memory;
+    /// where there is none it gives both devices back as they were.
     pub fn new(
         alloc: Global,
         opened: Opened<L, D>,
         script: &Script,
-        log_only: bool,
+        plan: Plan,
         own_writes: bool,
-        archive: bool,
         followers: Vec<Follower<R>>,
     ) -> Result<(Shared<L, D, R>, Vec<Player<R>>), (NoMemory, L, D)>
-        requires may { MayBegin opened script.now log_only }
-        requires new { AreNewFollowers opened.start followers.items }
+        requires may { MayBegin opened script.now plan.log_only }
+        requires new { HasNewFollowers plan opened.start followers.items }
         ensures err { IfErr result (λ error. (error.1 ≡ opened.log.dev) × (error.2 ≡ opened.store.dev)) }
-        ensures new { IfOk result (λ made. IsNewlyShared opened script.now log_only own_writes archive followers.items made.0 made.1.items) }
+        ensures new { IfOk result (λ made. IsNewlyShared opened script.now plan own_writes followers.items made.0 made.1.items) }
     {
         let layout = Layout {
             pages: opened.shape.pages,
             page_size: opened.shape.page_size,
         };
         let opened_is = Snapshot::of(&opened);
-        let count = followers.len() as u64;
         let Beginning {
             parts,
             actors,
             entries,
-        } = begin_run_with(alloc, opened, script, log_only, archive, followers)?;
+        } = begin_run_with(alloc, opened, script, plan, followers)?;
         let about = About {
             opened: opened_is,
             script: Snapshot::of(script),
             live: None,
-            log_only,
-            archive,
-            followers: count,
+            plan,
             own_writes,
         };
         let Parts {

@@ -18,12 +18,12 @@ use Rattle.redo_rule.specs.declared.law.About.{About}
 
 module _ {L D : Type 0} (log_seen : L → Seen) (data_seen : D → Seen) (about : About L D) (run : RunOf L D)
     (parts : Parts L D) (actors : List model.Actor)
-    (runs : RunsWith log_seen data_seen run about.archive parts actors) where
+    (runs : RunsWith log_seen data_seen run about.plan.archive parts actors) where
   -- what has failed by a code that an actor tells: a call of a part, or an append of the archiver
   abbrev pub FailedBy : ℕ → Type 0
   FailedBy code = HasFailedBy log_seen Log (log_seen run.first_log.dev).faults parts.log.dev parts.log.failed code
       ⊎ HasFailedBy data_seen Data (data_seen run.first_data.dev).faults parts.store.dev parts.store.failed code
-      ⊎ ((about.archive ≡ true) × HasLost actors code)
+      ⊎ ((about.plan.archive ≡ true) × HasLost actors code)
 
   -- the code has its cause, with what an append has met
   pub record HasMetCause (code : ℕ) : Type 0 where
@@ -45,7 +45,7 @@ module _ {L D : Type 0} (log_seen : L → Seen) (data_seen : D → Seen) (about 
     none_met : HasMet about actors None
     none_met fault is = let bad : None ≡ Some fault = is in absurd (cc)
 
-    met_by : (fault : DevError) → code ≡ append_code (Some fault) → (about.archive ≡ true) × HasLost actors code
+    met_by : (fault : DevError) → code ≡ append_code (Some fault) → (about.plan.archive ≡ true) × HasLost actors code
         → HasMetCause code
     met_by fault is lost = by_met (Some fault)
         (λ other same. (lost.0, subst (HasLost actors) is lost.1)) (λ positive. inr (inr is))

@@ -225,8 +225,8 @@ module _ {L D : Type 0} (log_seen : L → Seen) (log_gives : L → Call → L �
         (marks_is : ◌≡◌ {A = Marks} closed.marks left.marks) (code_is : closed.code ≡ left.code)
         (history_is : ◌≡◌ {A = List Entry} closed.history (history_of P.runs.running.log_ghost.answered
         (word_marks P.runs.running.shared) P.runs.running.log_ghost.log))
-        (loss : TellsLoss about.archive (views_of actors) closed.lost) (live : Bool) (script : List ScriptLine)
-        (is_run : IsRunWith about.opened.value script live about.log_only about.archive about.followers P.run)
+        (loss : TellsLoss about.plan.archive (views_of actors) closed.lost) (live : Bool) (script : List ScriptLine)
+        (is_run : IsRunWith about.opened.value script live about.plan P.run)
         (begun : (reading : Reading) → HasReading reading about.opened.value
         → IfSome (log_seen about.opened.value.log.dev).tells (λ log_disk.
         IfSome (data_seen about.opened.value.store.dev).tells (λ data_disk.
@@ -237,8 +237,8 @@ module _ {L D : Type 0} (log_seen : L → Seen) (log_gives : L → Call → L �
           → ((run_log_side log_seen data_seen P.run).Tells P.last.log → (n : ℕ) (a b : Actor R) → get_elem? starts n ≡
           maybe.some a → get_elem? actors n ≡ maybe.some b
           → HasGot stands (follower_of a) (groups_of (view_of b) P.runs.running.log_ghost.log) (follower_of b))
-          → LeavesAs log_seen log_gives data_seen data_gives stands about.opened.value script live about.log_only
-          about.archive about.followers starts actors closed
+          → LeavesAs log_seen log_gives data_seen data_gives stands about.opened.value script live about.plan starts
+              actors closed
       leaves_from stands starts count same got = record {
         run = P.run;
         is_run = is_run;
@@ -253,12 +253,12 @@ module _ {L D : Type 0} (log_seen : L → Seen) (log_gives : L → Call → L �
         marks = marks_is ∙ P.marks;
         code = code_is ∙ P.code;
         history = history_is;
-        lost = its_loss P.run.setup about.archive (views_of actors) P.runs.running.both.in_run closed.lost loss;
+        lost = its_loss P.run.setup about.plan.archive (views_of actors) P.runs.running.both.in_run closed.lost loss;
       }
 
       -- of actors that began with whatever they are, and of receivers of which nothing is told
       pub leaves_as : LeavesAs log_seen log_gives data_seen data_gives (λ (r : R) (l : List Given). Unit {0})
-          about.opened.value script live about.log_only about.archive about.followers actors actors closed
+          about.opened.value script live about.plan actors actors closed
       leaves_as = leaves_from (λ r l. Unit {0}) actors refl
           (λ n a b e f. subst (λ (z : Actor R). IsSameFollower (follower_of a) (follower_of z)) (maybe.some-injective
           a b (sym e ∙ f)) (own_follower (follower_of a)))
@@ -279,13 +279,13 @@ module _ {L D : Type 0} (log_seen : L → Seen) (log_gives : L → Call → L �
           about.opened.value script (views_of actors) closed
       owes_as runnable = record {
         holds = left_run.holds_run log_seen log_gives data_seen data_gives (λ (r : R) (l : List Given). Unit {0})
-            about.opened.value script about.log_only about.followers actors actors (done_with closed)
+            about.opened.value script about.plan actors actors (done_with closed)
             leaves_as runnable;
         comes_to = λ ended. left_run.comes_to_run log_seen log_gives data_seen data_gives (λ (r : R) (l : List Given).
-            Unit {0}) about.opened.value script about.log_only about.followers actors actors (done_with
+            Unit {0}) about.opened.value script about.plan actors actors (done_with
             closed) leaves_as runnable (λ e. ended) (λ turns user e. absurd (cc));
         owed_synced = λ ended. left_run.is_owed_synced log_seen log_gives data_seen data_gives (λ (r : R) (l : List
-            Given). Unit {0}) about.opened.value script about.log_only about.followers actors actors
+            Given). Unit {0}) about.opened.value script about.plan actors actors
             (done_with closed) leaves_as runnable (λ e. ended);
       }
 
@@ -293,14 +293,14 @@ module _ {L D : Type 0} (log_seen : L → Seen) (log_gives : L → Call → L �
     module _ (closed : Closed L D) (log_is : closed.log ≡ left.log) (store_is : closed.store ≡ left.store)
         (marks_is : ◌≡◌ {A = Marks} closed.marks left.marks) (code_is : closed.code ≡ left.code)
         (listed : ListsInOrder left.marks (views_of actors) closed.history)
-        (loss : TellsLoss about.archive (views_of actors) closed.lost) (fixed : about.live ≡ None) where
+        (loss : TellsLoss about.plan.archive (views_of actors) closed.lost) (fixed : about.live ≡ None) where
       pub leaves_own : LeavesWith log_seen log_gives data_seen data_gives (λ (r : R) (l : List Given). Unit {0})
-          about.opened.value about.script.value about.log_only about.archive about.followers actors actors closed
+          about.opened.value about.script.value about.plan actors actors closed
       leaves_own = leaves_as closed log_is store_is marks_is code_is
           (its_history heard (views_of actors) left P closed.history listed) loss false about.script.value
           (fixed_run log_seen data_seen about P.run fixed P.is_about) P.is_about.begun
 
-      pub is_owed : MayBegin about.opened.value about.script.value about.log_only → IsOwedRun log_seen log_gives
+      pub is_owed : MayBegin about.opened.value about.script.value about.plan.log_only → IsOwedRun log_seen log_gives
           data_seen data_gives about.opened.value about.script.value (views_of actors) closed
       is_owed may = owes_as closed log_is store_is marks_is code_is
           (its_history heard (views_of actors) left P closed.history listed) loss false about.script.value

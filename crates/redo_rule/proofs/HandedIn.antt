@@ -286,7 +286,7 @@ module _ {L D : Type 0} (log_seen : L → Seen) (log_gives : L → Call → L �
   its_live : R.run.live ≡ true
   its_live = R.is_about.is_run.live_is ∙ ap (λ (o : Option Live). is_some o) is_live
 
-  runs : RunsWith log_seen data_seen run about.archive R.parts after
+  runs : RunsWith log_seen data_seen run about.plan.archive R.parts after
   runs = let K = R.runs in let N = K.running in record {
     limits = K.limits;
     started = K.started;
@@ -305,7 +305,7 @@ module _ {L D : Type 0} (log_seen : L → Seen) (log_gives : L → Call → L �
       both = both_take_lines (run_log_side log_seen data_seen R.run) _ c N.shared N.log_ghost N.page_ghost _ R.parts.log
           R.parts.store R.actors x.number u more N.both here done agree
           (let n = length-append u.lines (line ∷ []) in let k = rests.1 in omega arith)
-          (sound_more u.lines line own.sound own.are_bytes (sound_line about.log_only shape one in_range fits)) fit
+          (sound_more u.lines line own.sound own.are_bytes (sound_line about.plan.log_only shape one in_range fits)) fit
           has_room;
     };
     seated = seats_take_lines c R.actors its_live K.seated x.number u more here;

@@ -233,7 +233,7 @@ module _ {L D : Type 0} (log_seen : L → Seen) (log_gives : L → Call → L �
     pub same : HasSamePages R.parts new
     pub run : RunOf L D
     pub is_about : IsRunAbout log_seen data_seen about run
-    pub runs : RunsWith log_seen data_seen run about.archive new after
+    pub runs : RunsWith log_seen data_seen run about.plan.archive new after
     pub own_is : is_some beside.own ≡ is_some R.beside.own
     pub own : HasItsWork (run_log_side log_seen data_seen run) new.log beside.own after
     pub hears : HaveHandedOn (run_log_side log_seen data_seen run) run.setup.base new.log heard after
@@ -393,7 +393,7 @@ module _ {L D : Type 0} (log_seen : L → Seen) (log_gives : L → Call → L �
       ends = refl;
     }
 
-    abbrev pub runs_behind : RunsWith log_seen data_seen R.run about.archive new after
+    abbrev pub runs_behind : RunsWith log_seen data_seen R.run about.plan.archive new after
     runs_behind = turns.goes_on log_seen data_seen R.run R.parts new R.actors after x.number r (step_of (filled a f) r)
         (laws_of_log log_seen data_seen R.run) (laws_of_data log_seen data_seen R.run) same R.runs turn
 

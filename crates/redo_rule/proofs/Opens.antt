@@ -111,25 +111,23 @@ AllStand own actors seats = (i : ℕ) (x : Numbered) → get_elem? seats i ≡ m
 -- A TABLE IS TOLD OF A RUN as it begins with these actors: that of a script, or a live one.
 pub record IsToldOf {L D R : Type 0} (log_seen : L → Seen) (data_seen : D → Seen) (stands : R → List Given → Type 0)
     (about : About L D) (script : List ScriptLine) (live : Bool) (followers : List (Following R))
-    (firsts : (log_only : Bool) → List model.Actor) (start : Beginning L D R)
-    (B : BeginsOn log_seen data_seen stands about.opened.value script live about.log_only about.archive followers firsts
-    start) : Type 0 where
+    (firsts : List model.Actor) (start : Beginning L D R)
+    (B : BeginsOn log_seen data_seen stands about.opened.value script live about.plan followers firsts start) : Type 0
+        where
   pub script_is : script ≡ about.script.value
   pub live_is : is_some about.live ≡ live
-  pub many : about.followers ≡ length followers
-  pub firsts_are : ◌≡◌ {A = List model.Actor} (firsts about.log_only) (starts_about about)
+  pub firsts_are : ◌≡◌ {A = List model.Actor} firsts (starts_about about)
   pub room : (l : Live) → about.live ≡ Some l
       → HasRoom l about.opened.value.shape script (length (starts_about about)) B.run.setup
 
 module _ {L D R : Type 0} (log_seen : L → Seen) (data_seen : D → Seen) (stands : R → List Given → Type 0)
     (about : About L D) (script : List ScriptLine) (live : Bool) (followers : List (Following R))
-    (firsts : (log_only : Bool) → List model.Actor) (start : Beginning L D R)
-    (B : BeginsOn log_seen data_seen stands about.opened.value script live about.log_only about.archive followers firsts
-    start) where
+    (firsts : List model.Actor) (start : Beginning L D R)
+    (B : BeginsOn log_seen data_seen stands about.opened.value script live about.plan followers firsts start) where
   -- the actors are those that the table's run begins with
   pub starts_so : IsToldOf log_seen data_seen stands about script live followers firsts start B
       → ◌≡◌ {A = List model.Actor} (views_of start.actors.items) (starts_about about)
-  starts_so T = B.stands.are_new ∙ ap firsts B.is_run.log_only_is ∙ T.firsts_are
+  starts_so T = B.stands.are_new ∙ T.firsts_are
 
   -- and none holds anything
   holds_none : (n : ℕ) (a : model.Actor) → get_elem? (views_of start.actors.items) n ≡ maybe.some a → HoldsNothing a
@@ -139,9 +137,9 @@ module _ {L D R : Type 0} (log_seen : L → Seen) (data_seen : D → Seen) (stan
 module _ {L D R : Type 0} (log_seen : L → Seen) (log_gives : L → Call → L → Type 0) (data_seen : D → Seen) (data_gives
     : D → Call → D → Type 0)
     (stands : R → List Given → Type 0) (about : About L D) (script : List ScriptLine) (live : Bool)
-    (followers : List (Following R)) (firsts : (log_only : Bool) → List model.Actor) (start : Beginning L D R)
-    (B : BeginsOn log_seen data_seen stands about.opened.value script live about.log_only about.archive followers firsts
-    start) (told : IsToldOf log_seen data_seen stands about script live followers firsts start B)
+    (followers : List (Following R)) (firsts : List model.Actor) (start : Beginning L D R)
+    (B : BeginsOn log_seen data_seen stands about.opened.value script live about.plan followers firsts start)
+    (told : IsToldOf log_seen data_seen stands about script live followers firsts start B)
     (lists_are : AreLists start.parts.lists) (beside : Beside) (own_is : about.own_writes ≡ is_some beside.own)
     (worked : HasItsWork (run_log_side log_seen data_seen B.run) start.parts.log beside.own
     (views_of start.actors.items))
@@ -192,10 +190,8 @@ module _ {L D R : Type 0} (log_seen : L → Seen) (log_gives : L → Call → L 
     is_about = record {
       script = script;
       fixed = λ _. told.script_is;
-      is_run = subst (λ (b : Bool). IsRunWith about.opened.value script b about.log_only about.archive
-          about.followers B.run) (sym told.live_is)
-          (subst (λ (n : ℕ). IsRunWith about.opened.value script live about.log_only about.archive n B.run)
-          (sym told.many) B.is_run);
+      is_run = subst (λ (b : Bool). IsRunWith about.opened.value script b about.plan B.run) (sym told.live_is)
+          B.is_run;
       room = told.room;
       begun = subst HasBegunWith told.script_is B.begun;
     };
@@ -245,22 +241,17 @@ module _ {L D R : Type 0} (log_seen : L → Seen) (log_gives : L → Call → L 
 module _ {L D R : Type 0} (log_seen : L → Seen) (data_seen : D → Seen) (stands : R → List Given → Type 0) (about :
     About L D)
     (fixed : about.live ≡ None)
-    (followers : List (Following R)) (many : about.followers ≡ length followers) (start : Beginning L D R)
-    (B : BeginsWith log_seen data_seen stands about.opened.value about.script.value about.log_only about.archive
-    followers start) where
-  abbrev pub script_firsts : (log_only : Bool) → List model.Actor
-  script_firsts b = seated_actors about.opened.value.shape about.script.value about.opened.value.start b about.archive
-      (length followers)
+    (followers : List (Following R)) (start : Beginning L D R)
+    (B : BeginsWith log_seen data_seen stands about.opened.value about.script.value about.plan followers start) where
+  abbrev pub script_firsts : List model.Actor
+  script_firsts = seated_actors about.opened.value.shape about.script.value about.opened.value.start about.plan
 
   -- a table that is told a script is told of the script's run
   pub told_script : IsToldOf log_seen data_seen stands about about.script.value false followers script_firsts start B
   told_script = record {
     script_is = refl;
     live_is = ap (λ (o : Option Live). is_some o) fixed;
-    many = many;
-    firsts_are = ap (seated_actors about.opened.value.shape about.script.value about.opened.value.start about.log_only
-        about.archive) (sym many)
-        ∙ ap (starts_with about) (sym fixed);
+    firsts_are = ap (starts_with about) (sym fixed);
     room = λ live is. (let none : Some live ≡ None = sym is ∙ fixed in absurd (cc));
   }
 
@@ -274,16 +265,15 @@ module _ {L D R : Type 0} (log_seen : L → Seen) (data_seen : D → Seen) (stan
 -- THE RULE HOLDS of a table that is told a script.
 pub opens_ok : {L D R : Type 0} (log_seen : L → Seen) (log_gives : L → Call → L → Type 0) (data_seen : D → Seen)
     (data_gives : D → Call → D → Type 0) (stands : R → List Given → Type 0) (about : About L D)
-    (fixed : about.live ≡ None) (followers : List (Following R)) (many : about.followers ≡ length followers)
-    (start : Beginning L D R) (B : BeginsWith log_seen data_seen stands about.opened.value about.script.value
-    about.log_only about.archive followers start)
+    (fixed : about.live ≡ None) (followers : List (Following R)) (start : Beginning L D R)
+    (B : BeginsWith log_seen data_seen stands about.opened.value about.script.value about.plan followers start)
     → AreLists start.parts.lists → (beside : Beside) → about.own_writes ≡ is_some beside.own
     → HasItsWork (run_log_side log_seen data_seen B.run) start.parts.log beside.own (views_of start.actors.items)
     → AllStand beside.own (views_of start.actors.items) (first_view about).seats
     → (ws : List ℕ) (xs : List (Slot L D)) → ws ≡ start.parts.words.words
     → ◌≡◌ {A = List (Slot L D)} xs (slots_of start.parts beside)
     → Ruled log_seen log_gives data_seen data_gives about (opening ws xs (first_view about))
-opens_ok log_seen log_gives data_seen data_gives stands about fixed followers many start B =
+opens_ok log_seen log_gives data_seen data_gives stands about fixed followers start B =
     opens_any log_seen log_gives data_seen data_gives stands about about.script.value false followers
-    (script_firsts log_seen data_seen stands about fixed followers many start B) start B
-    (told_script log_seen data_seen stands about fixed followers many start B)
+    (script_firsts log_seen data_seen stands about fixed followers start B) start B
+    (told_script log_seen data_seen stands about fixed followers start B)

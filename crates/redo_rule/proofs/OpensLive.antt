@@ -11,8 +11,9 @@ use Rattle.model_logcore.specs.{lengths}
 use Rattle.redo_disk.specs.{Call, Seen}
 use Rattle.redo_drive.specs.Begins.{BeginsLive, BeginsOn}
 use Rattle.redo_drive.specs.{AreLists, RunOf, views_of}
-use Rattle.redo_drive.specs.LiveActors.{live_actors}
+use Rattle.redo_drive.specs.LiveActors.{live_actors, live_plan}
 use Rattle.redo_drive.specs.declared.making.Beginning.{Beginning}
+use Rattle.redo_drive.specs.declared.plan.Plan.{Plan}
 use Rattle.redo_rule.proofs.Opens.{AllStand, IsToldOf, opens_any, slots_of, Stands, starts_so}
 use Rattle.redo_rule.specs.Handing.{nothing}
 use Rattle.redo_rule.specs.Lively.{HasRoom}
@@ -47,32 +48,27 @@ no_bytes (line ∷ lines) quota none = absurd (omega arith)
 module _ {L D R : Type 0} (log_seen : L → Seen) (log_gives : L → Call → L → Type 0) (data_seen : D → Seen) (data_gives
     : D → Call → D → Type 0) (stands : R → List Given → Type 0) (about : About L D) (live : Live)
     (alive : about.live ≡ Some live) (no_lines : about.script.value ≡ []) (plain : about.own_writes ≡ false)
-    (kept : about.archive ≡ false) (alone : about.followers ≡ 0) (start : Beginning L D R)
-    (B : BeginsLive log_seen data_seen stands about.opened.value live.users about.log_only start)
+    (kept : about.plan ≡ live_plan about.plan.log_only) (start : Beginning L D R)
+    (B : BeginsLive log_seen data_seen stands about.opened.value live.users about.plan.log_only start)
     (short : lsn (B.run.setup.base + length (starts_about about) * live.quota) < LSN_LIMIT) where
-  abbrev firsts : (log_only : Bool) → List model.Actor
-  firsts b = live_actors about.opened.value.shape live.users about.opened.value.start b false 0
+  abbrev firsts : List model.Actor
+  firsts = live_actors about.opened.value.shape live.users about.opened.value.start (live_plan about.plan.log_only)
 
-  abbrev BeginsSo : (archive : Bool) → Type 0
-  BeginsSo archive = BeginsOn log_seen data_seen stands about.opened.value [] true about.log_only archive [] firsts
-      start
+  abbrev BeginsSo : Plan → Type 0
+  BeginsSo plan = BeginsOn log_seen data_seen stands about.opened.value [] true plan [] firsts start
 
-  -- it begins with an archiver or without, as the table is told
-  abbrev IsSo : (archive : Bool) → Type 0
-  IsSo archive = (S : BeginsSo archive) × (S.run ≡ B.run)
+  -- it begins by the plan that the table is told
+  abbrev IsSo : Plan → Type 0
+  IsSo plan = (S : BeginsSo plan) × (S.run ≡ B.run)
 
-  pub so : IsSo about.archive
+  pub so : IsSo about.plan
   so = subst IsSo (sym kept) (B, refl)
 
   pub told_live : IsToldOf log_seen data_seen stands about [] true [] firsts start so.0
   told_live = record {
     script_is = sym no_lines;
     live_is = ap (λ (o : Option Live). is_some o) alive;
-    many = alone;
-    firsts_are = ap (λ (b : Bool). live_actors about.opened.value.shape live.users about.opened.value.start
-        about.log_only b 0) (sym kept)
-        ∙ ap (live_actors about.opened.value.shape live.users about.opened.value.start about.log_only about.archive)
-        (sym alone)
+    firsts_are = ap (live_actors about.opened.value.shape live.users about.opened.value.start) (sym kept)
         ∙ ap (starts_with about) (sym alive);
     room = λ other is.
         subst (λ (l : Live). HasRoom l about.opened.value.shape [] (length (starts_about about)) so.0.run.setup)

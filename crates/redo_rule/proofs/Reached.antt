@@ -22,6 +22,7 @@ use Rattle.redo_drive.specs.declared.actor.Actor.{Actor}
 use Rattle.redo_drive.specs.declared.device.Device.TheVariants.{Data, Log}
 use Rattle.redo_drive.specs.declared.parts.Parts.{Parts}
 use Rattle.redo_drive.specs.declared.closed.Closed.{Closed}
+use Rattle.redo_drive.specs.declared.plan.Plan.{Plan}
 use Rattle.redo_store.specs.declared.opened.Opened.{Opened}
 use Rattle.redo_rule.proofs.Kept.{laws_of_data, laws_of_log}
 use Rattle.redo_rule.proofs.Failing.{caused}
@@ -71,9 +72,8 @@ module _ {L D : Type 0} {archive : Bool} (log_seen : L → Seen) (data_seen : D 
 module _ {L D R : Type 0} {live : Bool} (log_seen : L → Seen) (log_gives : L → Call → L → Type 0) (data_seen : D → Seen)
     (data_gives
     : D → Call → D → Type 0) (stands : R → List Given → Type 0) (opened : Opened L D) (script : List ScriptLine)
-    (log_only archive : Bool) (followers : ℕ) (starts actors : List (Actor R)) (closed : Closed L D) (by : LeavesAs
-    log_seen log_gives data_seen data_gives stands opened script live log_only archive followers starts actors
-    closed) where
+    (plan : Plan) (starts actors : List (Actor R)) (closed : Closed L D) (by : LeavesAs
+    log_seen log_gives data_seen data_gives stands opened script live plan starts actors closed) where
   pub reaches_all : ReachesAll (views_of actors) closed
   reaches_all = record {
     marks = λ i a at. subst (λ (k : Marks). HasMarksWithin k a) (sym by.marks) (within log_seen data_seen by.run
@@ -82,7 +82,7 @@ module _ {L D R : Type 0} {live : Bool} (log_seen : L → Seen) (log_gives : L �
         at met in let is = by.code in omega arith;
   }
 
-  lost_by : archive ≡ true → (code : ℕ) → HasLost (views_of actors) code → code ≡ append_code closed.lost
+  lost_by : plan.archive ≡ true → (code : ℕ) → HasLost (views_of actors) code → code ≡ append_code closed.lost
   lost_by is = subst (λ (b : Bool). cond {A = Type 0} b
       ((code : ℕ) → HasLost (views_of actors) code → code ≡ append_code closed.lost) (Unit {0})) is by.lost
 

@@ -31,7 +31,7 @@ HasEndedBy a code = (next a ≡ op.Rest) × (ending a ≡ step.Failed code)
 -- this is what an append of the archiver among these actors has met, if one has failed
 abbrev pub HasMet : {L D : Type 0} → About L D → List model.Actor → Option DevError → Type 0
 HasMet about actors lost =
-    (fault : DevError) → lost ≡ Some fault → (about.archive ≡ true) × HasLost actors (append_code lost)
+    (fault : DevError) → lost ≡ Some fault → (about.plan.archive ≡ true) × HasLost actors (append_code lost)
 
 module _ {L D : Type 0} (log_seen : L → Seen) (data_seen : D → Seen) (v : View L D) where
   -- at that moment the condition of its step didn't hold yet

@@ -45,7 +45,7 @@ module _ {L D : Type 0} (log_seen : L → Seen) (log_gives : L → Call → L �
     pub run : RunOf L D
     pub is_about : IsRunAbout log_seen data_seen about run
     pub last : Parts L D
-    pub runs : RunsWith log_seen data_seen run about.archive last actors
+    pub runs : RunsWith log_seen data_seen run about.plan.archive last actors
     pub hears : HaveHandedOn (run_log_side log_seen data_seen run) run.setup.base last.log heard actors runs.running.log_ghost.log
     pub reads : HaveRead run.setup last.words.words heard runs.running.log_ghost.log
     pub loaded : HaveLoaded last.words.words actors

@@ -31,7 +31,7 @@ pub record RunReaches {L D : Type 0} (log_seen : L → Seen) (log_gives : L → 
   pub run : RunOf L D
   pub is_about : IsRunAbout log_seen data_seen about run
   pub parts : Parts L D
-  pub runs : RunsWith log_seen data_seen run about.archive parts actors
+  pub runs : RunsWith log_seen data_seen run about.plan.archive parts actors
   pub hears : HaveHandedOn (run_log_side log_seen data_seen run) run.setup.base parts.log heard actors runs.running.log_ghost.log
   pub reads : HaveRead run.setup parts.words.words heard runs.running.log_ghost.log
   pub loaded : HaveLoaded parts.words.words actors

@@ -19,7 +19,7 @@ use Rattle.redo_rule.specs.declared.law.View.{View}
 
 -- a line as its user runs it, in the run that the table is about
 abbrev pub line_about : {L D : Type 0} → About L D → ScriptLine → Line
-line_about about one = line_of about.log_only about.opened.value.shape one.mode (group_of about.opened.value.shape.space one)
+line_about about one = line_of about.plan.log_only about.opened.value.shape one.mode (group_of about.opened.value.shape.space one)
 
 abbrev pub numbered_with : Numbered → UserState → Line → Numbered
 numbered_with x u line = record {

@@ -144,10 +144,10 @@ module _ {L D : Type 0} (log_seen : L → Seen) (data_seen : D → Seen) where
     pub is_about : IsRunAbout log_seen data_seen about run
     pub old : Parts L D
     pub actors : List model.Actor
-    pub runs : RunsWith log_seen data_seen run about.archive old actors
+    pub runs : RunsWith log_seen data_seen run about.plan.archive old actors
     pub new : Parts L D
     pub after : List model.Actor
-    pub runs_on : RunsWith log_seen data_seen run about.archive new after
+    pub runs_on : RunsWith log_seen data_seen run about.plan.archive new after
     pub at : get_elem? actors number ≡ some a
     pub hears : (run_log_side log_seen data_seen run).Tells old.log → heard.groups ≡ groups_of a runs.running.log_ghost.log
     -- where it gives the log part back after a failed call, its code is one that the part has

@@ -69,10 +69,8 @@ module _ {L D : Type 0} where
 
   -- the actors of a table's run as it begins: those of the script that the table is told, or of a live run
   abbrev pub starts_with : About L D → Option Live → List model.Actor
-  starts_with about None = seated_actors about.opened.value.shape about.script.value about.opened.value.start
-      about.log_only about.archive about.followers
-  starts_with about (Some live) = live_actors about.opened.value.shape live.users about.opened.value.start about.log_only
-      about.archive about.followers
+  starts_with about None = seated_actors about.opened.value.shape about.script.value about.opened.value.start about.plan
+  starts_with about (Some live) = live_actors about.opened.value.shape live.users about.opened.value.start about.plan
 
   abbrev pub starts_about : About L D → List model.Actor
   starts_about about = starts_with about about.live
@@ -114,7 +112,7 @@ module _ {L D : Type 0} (log_seen : L → Seen) (data_seen : D → Seen) where
   pub record IsRunAbout (about : About L D) (run : RunOf L D) : Type 0 where
     pub script : List ScriptLine
     pub fixed : about.live ≡ None → script ≡ about.script.value
-    pub is_run : IsRunWith about.opened.value script (is_some about.live) about.log_only about.archive about.followers run
+    pub is_run : IsRunWith about.opened.value script (is_some about.live) about.plan run
     pub room : (live : Live) → about.live ≡ Some live
         → HasRoom live about.opened.value.shape script (length (starts_about about)) run.setup
     pub begun : (reading : Reading) → HasReading reading about.opened.value
@@ -137,7 +135,7 @@ pub record Ruled {L D : Type 0} (log_seen : L → Seen) (log_gives : L → Call 
   -- where users write for themselves, the writer and the flusher among the actors are the log's work
   pub own_is : about.own_writes ≡ is_some beside.own
   pub own : HasItsWork (run_log_side log_seen data_seen run) parts.log beside.own actors
-  pub runs : RunsWith log_seen data_seen run about.archive parts actors
+  pub runs : RunsWith log_seen data_seen run about.plan.archive parts actors
   pub hears : HaveHandedOn (run_log_side log_seen data_seen run) run.setup.base parts.log heard actors runs.running.log_ghost.log
   pub reads : HaveRead run.setup parts.words.words heard runs.running.log_ghost.log
   pub loaded : HaveLoaded parts.words.words actors

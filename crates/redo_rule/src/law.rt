@@ -4,7 +4,7 @@ use model_own::ErrandStep;
 use model_reads::{Glance, ReadEnd};
 use model_script::Script;
 use redo_disk::Sectors;
-use redo_drive::Actor;
+use redo_drive::{Actor, Plan};
 use redo_flushlist::FlushList;
 use redo_follow::Tally;
 use redo_logdev::LogPart;
@@ -142,17 +142,14 @@ pub struct Live {
     pub quota: u64,
 }
 
-/// What a table is told once: the opened store, the script, whether the run is a live one, whether it is archived, how many
-/// followers there are, and whether users write for themselves. The actors as they begin follow from that. A live run begins
-/// with no line of its users.
+/// What a table is told once: the opened store, the script, whether the run is a live one, its plan, and whether users write for
+/// themselves. The actors as they begin follow from that. A live run begins with no line of its users.
 #[derive(Drop)]
 pub struct About<L: Sectors, D: Sectors> {
     pub opened: Snapshot<Opened<L, D>>,
     pub script: Snapshot<Script>,
     pub live: Option<Live>,
-    pub log_only: bool,
-    pub archive: bool,
-    pub followers: u64,
+    pub plan: Plan,
     pub own_writes: bool,
 }
 

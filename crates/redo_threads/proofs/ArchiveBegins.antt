@@ -161,20 +161,18 @@ module _ {L D A F : Type 0} (seen : A → Seen) (shared : Shared L D F) (players
   abbrev cs : List (Actor F)
   cs = crew B.work players
 
-  are : views_of cs ≡ seated_actors key.opened.value.shape key.script.value start key.log_only key.archive
-      (length B.followers)
+  are : views_of cs ≡ seated_actors key.opened.value.shape key.script.value start key.plan
   are = sym B.actors_are ∙ ap (starts_with key) fixed
-      ∙ ap (seated_actors key.opened.value.shape key.script.value start key.log_only key.archive) B.many
 
   is_new : (i : ℕ) (r : ReaderState) → get_elem? players i ≡ maybe.some (player.Plain (own.Archiver r))
       → ◌≡◌ {A = ReaderState} r (new_reader 0 start)
-  is_new i r at = archiver_is key.opened.value.shape key.script.value start key.log_only B.followers cs key.archive are
+  is_new i r at = archiver_is key.opened.value.shape key.script.value start key.plan cs B.followers B.many are
       B.readers (place (own_of shared) players i) r
       (crew_at (own_of shared) B.work B.works players i (player.Plain (own.Archiver r)) at)
 
   module _ (gives : A → Call → A → Type 0) (part : Part A)
       (new : IsNewArchive seen (opened_of shared) (shared_script shared) part)
-      (may : MayBegin (opened_of shared) (shared_script shared) key.log_only) where
+      (may : MayBegin (opened_of shared) (shared_script shared) key.plan.log_only) where
     -- A NEW ARCHIVE stands beside a new archiver.
     its_archives : (v : View L D) → v.about ≡ Some key → ◌≡◌ {A = Heard} (heard_of v) nothing
         → Archives seen gives key part v (new_reader 0 start) part
@@ -226,13 +224,11 @@ module _ {L D A F : Type 0} (seen : A → Seen) (shared : Shared L D F) (players
           archives = λ pages begun wholes run all. part-longer seen pages [] wholes part run begun;
         }
 
-    pub may_be : (x : Crew L D F) → x.players.items ≡ players → AreFresh (Some key) x.seats.items → key.archive ≡ true
-        → MayBeArchived seen gives key part x part
+    pub may_be : (x : Crew L D F) → x.players.items ≡ players → AreFresh (Some key) x.seats.items
+        → key.plan.archive ≡ true → MayBeArchived seen gives key part x part
     may_be x is fresh archived =
         let f = subst (λ (l : List (Player F)). Found l) (sym is) (crew_archiver B.work players _ (new_reader 0 start)
-        (archiver_there key.opened.value.shape key.script.value start key.log_only B.followers cs
-        (are ∙ ap (λ (b : Bool). seated_actors key.opened.value.shape key.script.value start key.log_only b
-        (length B.followers)) archived)
+        (archiver_there start B.followers cs
         (subst (λ (b : Bool). EndsWithReaders start b cs B.followers) archived B.readers))) in
         record {
           place = f.place;
@@ -263,7 +259,7 @@ module _ {L D A F : Type 0} (seen : A → Seen) (shared : Shared L D F) (players
     same_front : (i : ℕ) (q : Player F) (z : ReaderState) → get_elem? y.players.items i ≡ maybe.some q
         → view_of (actor_of q) ≡ model.Reader z → archives z ≡ true
         → place (own_of shared) players i
-        ≡ length (front key.opened.value.shape key.script.value start key.log_only B.followers cs key.archive)
+        ≡ length (front key.opened.value.shape key.script.value start key.plan cs)
     same_front i q z at q_is kind =
         let l = past y.players.items i q at in
         let c = keep.count in
@@ -276,10 +272,10 @@ module _ {L D A F : Type 0} (seen : A → Seen) (shared : Shared L D F) (players
         let crewed = crew_at (own_of shared) B.work B.works players i p.0 here in
         let viewed : get_elem? (views_of cs) (place (own_of shared) players i) ≡ maybe.some (model.Reader w.state) =
         views_at cs (place (own_of shared) players i) (actor_of p.0) crewed ∙ ap maybe.some w.is in
-        archives_at key.opened.value.shape key.script.value start key.log_only B.followers cs key.archive are
+        archives_at key.opened.value.shape key.script.value start key.plan cs are
         (place (own_of shared) players i) w.state viewed
         (⊎_elim (λ so. so) (λ so. ap (λ (r : ReaderState). archives r)
-        (archiver_is key.opened.value.shape key.script.value start key.log_only B.followers cs key.archive are B.readers
+        (archiver_is key.opened.value.shape key.script.value start key.plan cs B.followers B.many are B.readers
         (place (own_of shared) players i) w.state (crewed ∙ ap maybe.some so))) w.kind)
 
     same_player : (i j : ℕ) (q p : Player F) (z w : ReaderState) → get_elem? y.players.items i ≡ maybe.some q

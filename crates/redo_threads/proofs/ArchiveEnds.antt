@@ -36,8 +36,8 @@ module _ {L D A F : Type 0} {gives : A → Call → A → Type 0} (log_seen : L 
     (data_seen : D → Seen) (data_gives : D → Call → D → Type 0) (seen : A → Seen) (stands : F → List Given → Type 0)
     (about : About L D)
     (starts actors : List (Actor F)) (seats : List (Seat (Slot L D) (View L D))) (closed : Closed L D)
-    (left : LeavesHeard log_seen log_gives data_seen data_gives stands about.opened.value about.script.value about.log_only
-    about.archive about.followers starts actors seats closed)
+    (left : LeavesHeard log_seen log_gives data_seen data_gives stands about.opened.value about.script.value
+    about.plan starts actors seats closed)
     (place : ℕ) (seat : Seat (Slot L D) (View L D)) (sits : get_elem? seats place ≡ maybe.some seat) (n : ℕ) (r : ReaderState)
     (at : get_elem? (views_of actors) n ≡ maybe.some (model.Reader r))
     (only : (m : ℕ) (x : ReaderState) → get_elem? (views_of actors) m ≡ maybe.some (model.Reader x) → archives x ≡ true → m ≡ n)
@@ -107,7 +107,7 @@ module _ {L D A F : Type 0} {gives : A → Call → A → Type 0} (log_seen : L 
       start = its_start;
       limit = end_about about;
       all = last_within log_seen data_seen left.by.run left.by.last (views_of actors) left.by.from.runs about.opened.value
-          about.script.value about.log_only about.followers left.by.is_run;
+          about.script.value about.plan left.by.is_run;
       pace = record {
         kind = S.pace.kind;
         start = S.pace.start;
@@ -118,7 +118,7 @@ module _ {L D A F : Type 0} {gives : A → Call → A → Type 0} (log_seen : L 
         loaded = left.loaded n r at;
         up_to = up_to;
         within = flushed_within log_seen data_seen left.by.run left.by.last (views_of actors) left.by.from.runs
-            about.opened.value about.script.value about.log_only about.followers left.by.is_run;
+            about.opened.value about.script.value about.plan left.by.is_run;
         small = S.pace.small;
         room = S.pace.room;
       };
@@ -136,4 +136,4 @@ module _ {L D A F : Type 0} {gives : A → Call → A → Type 0} (log_seen : L 
   pub left_archived : HasArchived log_seen data_seen seen gives about.opened.value about.script.value closed
       (views_of actors) before part
   left_archived = has_archived log_seen log_gives data_seen data_gives seen stands about.opened.value about.script.value
-      about.log_only about.followers starts actors (done_with closed) left.by before part come failed
+      about.plan starts actors (done_with closed) left.by before part come failed

@@ -30,8 +30,8 @@ module _ {L D A F : Type 0} {gives : A → Call → A → Type 0} (seen : A → 
     (x y : Crew L D F) (is : x.players.items ≡ players) (many : length x.seats.items ≡ length x.players.items) (keep : KeepOn stands table x y)
     (fresh : AreFresh (Some shared.board.shared.key) x.seats.items) (part : Part A)
     (new : IsNewArchive seen (opened_of shared) (shared_script shared) part)
-    (may : MayBegin (opened_of shared) (shared_script shared) shared.board.shared.key.log_only)
-    (archived : shared.board.shared.key.archive ≡ true) (later : Option (Part A))
+    (may : MayBegin (opened_of shared) (shared_script shared) shared.board.shared.key.plan.log_only)
+    (archived : shared.board.shared.key.plan.archive ≡ true) (later : Option (Part A))
     (st : ArchiveStays seen gives x part y later) where
   abbrev key : About L D
   key = shared.board.shared.key
@@ -45,7 +45,7 @@ module _ {L D A F : Type 0} {gives : A → Call → A → Type 0} (seen : A → 
 
   -- the archiver knows what its archive has met
   pub tells : (lost : Option DevError) → lost ≡ lost_of later
-      → TellsLoss key.archive (views_of (map actor_of y.players.items)) lost
+      → TellsLoss key.plan.archive (views_of (map actor_of y.players.items)) lost
   tells lost told = subst (λ (b : Bool). TellsLoss b (views_of (map actor_of y.players.items)) lost) (sym archived)
       (tells_loss seen shared players B fixed stands table x y is many keep st.place st.then st.then_at o.state
       o.player_is o.archives.pace.kind lost (o.archives.pace.lost ∙ ap append_code (sym (lost_is lost told))))
@@ -54,8 +54,8 @@ module _ {L D A F : Type 0} {gives : A → Call → A → Type 0} (seen : A → 
   module _ (log_seen : L → Seen) (log_gives : L → Call → L → Type 0) (data_seen : D → Seen)
       (data_gives : D → Call → D → Type 0) (work : Option LogWork) (works : is_some work ≡ own_of shared)
       (actors : List (Actor F)) (actors_are : ◌≡◌ {A = List (Actor F)} actors (crew work y.players.items)) (closed : Closed L D)
-      (left : LeavesHeard log_seen log_gives data_seen data_gives stands key.opened.value key.script.value key.log_only
-      key.archive key.followers (crew work players) actors y.seats.items closed) (told : closed.lost ≡ lost_of later) where
+      (left : LeavesHeard log_seen log_gives data_seen data_gives stands key.opened.value key.script.value
+      key.plan (crew work players) actors y.seats.items closed) (told : closed.lost ≡ lost_of later) where
     pub leaves_archive : HaveArchived log_seen data_seen seen gives (opened_of shared) (shared_script shared) closed
         (views_of actors) (Some part) later
     leaves_archive = subst (λ (a : Option (Part A)). HaveArchived log_seen data_seen seen gives (opened_of shared)

@@ -185,7 +185,7 @@ module _ {L D A : Type 0} {gives : A → Call → A → Type 0} (log_seen : L �
         let s = played.shown in
         subst (λ (z : About L D). slice_index ws 3 ≤ end_about z) its_about
         (flushed_within log_seen data_seen s.run s.old s.actors s.runs s.about.opened.value s.about.script.value
-        s.about.log_only s.about.followers
+        s.about.plan
         (fixed_run log_seen data_seen s.about s.run (ap (λ (z : About L D). z.live) its_about ∙ S.fixed) s.is_about))
 
     said : ◌≡◌ {A = Answer} played.answer (answer_of played.shown.old.words.layout (lists_of played.shown.old.lists)

@@ -15,6 +15,7 @@ use Rattle.redo_drive.specs.Begins.{EndsWithReaders}
 use Rattle.redo_drive.specs.Setups.{seated_actors}
 use Rattle.redo_drive.specs.declared.actor.Actor.{Actor}
 use Rattle.redo_drive.specs.declared.closed.Closed.{Closed}
+use Rattle.redo_drive.specs.declared.plan.Plan.{Plan}
 use Rattle.redo_follow.specs.Following.{Following}
 use Rattle.redo_store.specs.declared.opened.Opened.{Opened}
 use Rattle.redo_rule.specs.Closing.{done_with, IsOwedRun}
@@ -56,31 +57,33 @@ module _ {L D : Type 0} (log_seen : L → Seen) (log_gives : L → Call → L �
       (subst (λ (s : List ScriptLine). HaveArchived log_seen data_seen seen gives known s closed actors before after)
       script_is have)
 
-  module _ {F : Type 0} (stands : F → List Given → Type 0) (alone archive : Bool) (count : ℕ) (starts actors : List (Actor F))
-      (left : LeavesWith log_seen log_gives data_seen data_gives stands known lines alone archive count starts actors closed)
+  module _ {F : Type 0} (stands : F → List Given → Type 0) (told plan : Plan) (plan_is : told ≡ plan)
+      (starts actors : List (Actor F))
+      (left : LeavesWith log_seen log_gives data_seen data_gives stands known lines told starts actors closed)
     where
-      pub runs_in_threads : (log_only : Bool) → alone ≡ log_only → HaveRun (views_of starts) (views_of actors) closed
-          → RunsInThreads opened script log_only (views_of actors) (done_with closed)
-      runs_in_threads log_only only_is run = record {
+      pub runs_in_threads : HaveRun (views_of starts) (views_of actors) closed
+          → RunsInThreads opened script plan.log_only (views_of actors) (done_with closed)
+      runs_in_threads run = record {
         done = refl;
-        of_script = subst (λ (b : Bool). AreActorsOf script b (views_of actors)) only_is
-            (subst (λ (s : List ScriptLine). AreActorsOf s alone (views_of actors)) script_is
-            (are_of_script log_seen log_gives data_seen data_gives stands known lines alone count starts actors closed
-            left));
+        of_script = subst (λ (p : Plan). AreActorsOf script p.log_only (views_of actors)) plan_is
+            (subst (λ (s : List ScriptLine). AreActorsOf s told.log_only (views_of actors)) script_is
+            (are_of_script log_seen log_gives data_seen data_gives stands known lines told starts actors closed left));
         ended = run.ended;
         answered = run.answered;
         listed = run.listed;
       }
 
       -- what is left of the followers with which the run was made
-      pub followed : (fs : List (Following F)) → AreNewFollowers opened.start fs → EndsWithReaders opened.start archive starts fs
-          → seated_actors known.shape lines known.start alone archive count ≡ views_of starts → count ≡ length fs
+      pub followed : (fs : List (Following F)) → AreNewFollowers opened.start fs → plan.followers ≡ length fs
+          → EndsWithReaders opened.start plan.archive starts fs
+          → seated_actors known.shape lines known.start told ≡ views_of starts
           → HaveFollowed log_seen data_seen stands opened script fs actors closed
-      followed fs new ends are count_is =
+      followed fs new many ends are =
           subst (λ (o : Opened L D). HaveFollowed log_seen data_seen stands o script fs actors closed) opened_is
           (subst (λ (s : List ScriptLine). HaveFollowed log_seen data_seen stands known s fs actors closed) script_is
-          (have_followed log_seen log_gives data_seen data_gives stands known lines alone count starts actors
+          (have_followed log_seen log_gives data_seen data_gives stands known lines told starts actors
           (done_with closed) left fs
           (subst (λ (o : Opened L D). AreNewFollowers o.start fs) (sym opened_is) new)
-          (sym are ∙ ap (seated_actors known.shape lines known.start alone archive) count_is)
-          (subst (λ (o : Opened L D). EndsWithReaders o.start archive starts fs) (sym opened_is) ends)))
+          (ap (λ (p : Plan). p.followers) plan_is ∙ many) (sym are)
+          (subst (λ (p : Plan). EndsWithReaders known.start p.archive starts fs) (sym plan_is)
+          (subst (λ (o : Opened L D). EndsWithReaders o.start plan.archive starts fs) (sym opened_is) ends))))

@@ -15,6 +15,7 @@ use Rattle.redo_drive.specs.Leaving.{LeavesWith}
 use Rattle.redo_drive.specs.{run_log_side, view_of, views_of}
 use Rattle.redo_drive.specs.declared.actor.Actor.{Actor}
 use Rattle.redo_drive.specs.declared.closed.Closed.{Closed}
+use Rattle.redo_drive.specs.declared.plan.Plan.{Plan}
 use Rattle.redo_ownrule.specs.Players.{actor_of, crew, workers_of}
 use Rattle.redo_ownrule.specs.Sharing.{AllAtRest}
 use Rattle.redo_ownrule.specs.declared.player.Player.{Player}
@@ -90,10 +91,10 @@ module _ {F : Type 0} where
       subst (λ (l : List (Actor F)). HaveEnded (views_of l)) (sym are)
       (all_over (crew work players) (over_crew work players ends))
 
-module _ {L D F : Type 0} {archive : Bool} (log_seen : L → Seen) (log_gives : L → Call → L → Type 0) (data_seen : D → Seen)
+module _ {L D F : Type 0} (log_seen : L → Seen) (log_gives : L → Call → L → Type 0) (data_seen : D → Seen)
     (data_gives : D → Call → D → Type 0) (stands : F → List Given → Type 0) (opened : Opened L D)
-    (script : List ScriptLine) (log_only : Bool) (followers : ℕ) (starts actors : List (Actor F)) (closed : Closed L D)
-    (left : LeavesWith log_seen log_gives data_seen data_gives stands opened script log_only archive followers starts actors
+    (script : List ScriptLine) (plan : Plan) (starts actors : List (Actor F)) (closed : Closed L D)
+    (left : LeavesWith log_seen log_gives data_seen data_gives stands opened script plan starts actors
     closed) where
   -- a user that has ended by a failure has met it in FAILED
   pub have_answered : HaveEnded (views_of actors) → closed.code ≡ 0 → HaveAnswered (views_of actors)

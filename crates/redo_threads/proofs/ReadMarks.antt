@@ -32,6 +32,7 @@ use Rattle.redo_drive.specs.Leaving.{LeavesWith}
 use Rattle.redo_drive.specs.{RunOf, run_data_side, run_log_side, core_of, MayBegin, views_of}
 use Rattle.redo_drive.specs.declared.actor.Actor.{Actor}
 use Rattle.redo_drive.specs.declared.drive.Driven.{Driven}
+use Rattle.redo_drive.specs.declared.plan.Plan.{Plan}
 use Rattle.redo_logdev.specs.{DiskHolds}
 use Rattle.redo_logdev.specs.Part as log
 use Rattle.redo_store.specs.declared.opened.Opened.{Opened}
@@ -40,11 +41,11 @@ use Rattle.redo_store.specs.declared.opened.Opened.{Opened}
 as_told : (tells : Option Disk) (Is : Disk → Type 0) (disk : Disk) → tells ≡ Some disk → IfSome tells Is → Is disk
 as_told tells Is disk told is = subst (λ (o : Option Disk). IfSome o Is) told is
 
-module _ {L D R : Type 0} {archive : Bool} (log_seen : L → Seen) (log_gives : L → Call → L → Type 0) (data_seen : D → Seen)
+module _ {L D R : Type 0} (log_seen : L → Seen) (log_gives : L → Call → L → Type 0) (data_seen : D → Seen)
     (data_gives : D → Call → D → Type 0) (stands : R → List Given → Type 0) (opened : Opened L D)
-    (script : List ScriptLine) (log_only : Bool) (followers : ℕ) (starts actors : List (Actor R)) (driven : Driven L D)
-    (by : LeavesWith log_seen log_gives data_seen data_gives stands opened script log_only archive followers starts actors
-    driven.closed) (may : MayBegin opened script log_only) where
+    (script : List ScriptLine) (plan : Plan) (starts actors : List (Actor R)) (driven : Driven L D)
+    (by : LeavesWith log_seen log_gives data_seen data_gives stands opened script plan starts actors
+    driven.closed) (may : MayBegin opened script plan.log_only) where
   abbrev run : RunOf L D
   run = by.run
 
@@ -57,7 +58,7 @@ module _ {L D R : Type 0} {archive : Bool} (log_seen : L → Seen) (log_gives : 
   no_code kept log_live data_live = elim (dec_le 1 by.from.runs.running.shared.failed) [
     | yes positive ↦ ⊎_elim (λ failed. absurd (failed log_live))
         (⊎_elim (λ failed. absurd (failed data_live)) (λ lost. absurd (lost kept)))
-        (met_error log_seen log_gives data_seen data_gives stands opened script log_only followers starts actors driven by
+        (met_error log_seen log_gives data_seen data_gives stands opened script plan starts actors driven by
         (by.from.runs.running.shared.failed, by.from.runs.running.both.cause positive))
     | no none ↦ omega arith
   ]
@@ -68,7 +69,8 @@ module _ {L D R : Type 0} {archive : Bool} (log_seen : L → Seen) (log_gives : 
       → ReadsToMarks log_seen data_seen opened script driven.closed
   unfolding stands_for_run
   reads_marks kept rest log_live data_live reading as_read =
-      where_started log_seen log_gives data_seen data_gives stands opened script log_only followers starts actors driven by reading as_read _
+      where_started log_seen log_gives data_seen data_gives stands opened script plan starts actors driven by reading
+          as_read _
       (λ log_disk data_disk start begun. if_told (log_seen driven.closed.log.dev).tells _ (λ log_now log_told.
       if_told (data_seen driven.closed.store.dev).tells _ (λ data_now data_told left is.
       let R = by.from.runs.running in

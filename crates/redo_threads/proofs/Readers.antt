@@ -15,6 +15,7 @@ use Rattle.redo_drive.specs.{views_of}
 use Rattle.redo_drive.specs.declared.actor.Actor.{Actor}
 use Rattle.redo_drive.specs.declared.actor.Actor.TheVariants as own
 use Rattle.redo_drive.specs.declared.seating.TheConstants.{FIRST_FOLLOWER}
+use Rattle.redo_drive.specs.declared.plan.Plan.{Plan}
 use Rattle.redo_follow.specs.Following.{Following}
 
 -- a place in the front of a list, and one behind it
@@ -56,21 +57,24 @@ no_user (u ∷ us) ys zero s none at =
     let e = maybe.some-injective (model.User u) (model.Reader s) at in absurd (cc)
 no_user (u ∷ us) ys (suc m) s none at = no_user us ys m s none at
 
-no_page : (shape : Shape) (start : ℕ) (log_only archive : Bool) (n i : ℕ) (s : ReaderState)
-    → get_elem? (page_actors shape start log_only archive n) i ≡ maybe.some (model.Reader s) → ⊥
-no_page shape start true archive n i s at = maybe.some-ne-none (model.Reader s) (sym at)
-no_page shape start false archive n zero s at = let e = maybe.some-injective _ (model.Reader s) at in absurd (cc)
-no_page shape start false archive n (suc zero) s at = let e = maybe.some-injective _ (model.Reader s) at in absurd (cc)
-no_page shape start false archive n (suc (suc zero)) s at =
-    let e = maybe.some-injective _ (model.Reader s) at in absurd (cc)
-no_page shape start false archive n (suc (suc (suc i))) s at = maybe.some-ne-none (model.Reader s) (sym at)
+no_page : (shape : Shape) (start : ℕ) (plan : Plan) (i : ℕ) (s : ReaderState)
+    → get_elem? (page_actors shape start plan) i ≡ maybe.some (model.Reader s) → ⊥
+no_page shape start plan = by plan.log_only
+  where
+    by : (b : Bool) (i : ℕ) (s : ReaderState)
+        → get_elem? (page_actors shape start (record plan { log_only = b })) i ≡ maybe.some (model.Reader s) → ⊥
+    by true i s at = maybe.some-ne-none (model.Reader s) (sym at)
+    by false zero s at = let e = maybe.some-injective _ (model.Reader s) at in absurd (cc)
+    by false (suc zero) s at = let e = maybe.some-injective _ (model.Reader s) at in absurd (cc)
+    by false (suc (suc zero)) s at = let e = maybe.some-injective _ (model.Reader s) at in absurd (cc)
+    by false (suc (suc (suc i))) s at = maybe.some-ne-none (model.Reader s) (sym at)
 
-no_other : (shape : Shape) (start : ℕ) (log_only archive : Bool) (n : ℕ) (w f : model.Actor)
+no_other : (shape : Shape) (start : ℕ) (plan : Plan) (w f : model.Actor)
     → ((s : ReaderState) → w ≡ model.Reader s → ⊥) → ((s : ReaderState) → f ≡ model.Reader s → ⊥) → (i : ℕ) (s : ReaderState)
-    → get_elem? (w ∷ f ∷ page_actors shape start log_only archive n) i ≡ maybe.some (model.Reader s) → ⊥
-no_other shape start log_only archive n w f one two zero s at = one s (maybe.some-injective w (model.Reader s) at)
-no_other shape start log_only archive n w f one two (suc zero) s at = two s (maybe.some-injective f (model.Reader s) at)
-no_other shape start log_only archive n w f one two (suc (suc i)) s at = no_page shape start log_only archive n i s at
+    → get_elem? (w ∷ f ∷ page_actors shape start plan) i ≡ maybe.some (model.Reader s) → ⊥
+no_other shape start plan w f one two zero s at = one s (maybe.some-injective w (model.Reader s) at)
+no_other shape start plan w f one two (suc zero) s at = two s (maybe.some-injective f (model.Reader s) at)
+no_other shape start plan w f one two (suc (suc i)) s at = no_page shape start plan i s at
 
 -- followers have numbers from this one on
 followers_at : (start number n i : ℕ) (s : ReaderState)
@@ -90,15 +94,20 @@ long_followers start number zero = refl
 long_followers start number (suc n) = ap suc (long_followers start (number + 1) n)
 
 -- who archives stands first behind the others
-archives_first : (start : ℕ) (archive : Bool) (n i : ℕ) (s : ReaderState)
-    → get_elem? (readers_of start archive n) i ≡ maybe.some (model.Reader s) → archives s ≡ true → i ≡ 0
-archives_first start true n zero s at kind = refl
-archives_first start true n (suc i) s at kind =
-    let low = followers_at start FIRST_FOLLOWER n i s at in
-    let none = eqb-true s.number 0 kind in absurd (omega arith)
-archives_first start false n i s at kind =
-    let low = followers_at start FIRST_FOLLOWER n i s at in
-    let none = eqb-true s.number 0 kind in absurd (omega arith)
+archives_first : (start : ℕ) (plan : Plan) (i : ℕ) (s : ReaderState)
+    → get_elem? (readers_of start plan) i ≡ maybe.some (model.Reader s) → archives s ≡ true → i ≡ 0
+archives_first start plan = by plan.archive
+  where
+    by : (b : Bool) (i : ℕ) (s : ReaderState)
+        → get_elem? (readers_of start (record plan { archive = b })) i ≡ maybe.some (model.Reader s)
+        → archives s ≡ true → i ≡ 0
+    by true zero s at kind = refl
+    by true (suc i) s at kind =
+        let low = followers_at start FIRST_FOLLOWER plan.followers i s at in
+        let none = eqb-true s.number 0 kind in absurd (omega arith)
+    by false i s at kind =
+        let low = followers_at start FIRST_FOLLOWER plan.followers i s at in
+        let none = eqb-true s.number 0 kind in absurd (omega arith)
 
 no_archiver : {R : Type 0} (fs : List (Following R)) (i : ℕ) (s : ReaderState)
     → get_elem? (map own.Follower fs) i ≡ maybe.some (own.Archiver s) → ⊥
@@ -110,74 +119,81 @@ one_archiver : {R : Type 0} (x y : ReaderState) → ◌≡◌ {A = Actor R} (own
     → ◌≡◌ {A = ReaderState} x y
 one_archiver x y e = cc
 
-module _ {R : Type 0} (shape : Shape) (script : List ScriptLine) (start : ℕ) (log_only : Bool) (fs : List (Following R))
-    (cs : List (Actor R)) where
-  abbrev pub front : Bool → List model.Actor
-  front archive = seated_before shape script start log_only archive (length fs)
+module _ {R : Type 0} (shape : Shape) (script : List ScriptLine) (start : ℕ) (plan : Plan) (cs : List (Actor R)) where
+  abbrev pub front : List model.Actor
+  front = seated_before shape script start plan
 
-  before : (archive : Bool) (m : ℕ) (s : ReaderState) → get_elem? (front archive) m ≡ maybe.some (model.Reader s) → ⊥
-  before archive m s at = no_user (users_of shape log_only script) _ m s
-      (λ i here. no_other shape start log_only archive (length fs) _ _ (λ x e. absurd (cc)) (λ x e. absurd (cc)) i s here) at
+  before : (m : ℕ) (s : ReaderState) → get_elem? front m ≡ maybe.some (model.Reader s) → ⊥
+  before m s at = no_user (users_of shape plan.log_only script) _ m s
+      (λ i here. no_other shape start plan _ _ (λ x e. absurd (cc)) (λ x e. absurd (cc)) i s here) at
 
   -- WHO ARCHIVES has its place among the actors of a run's start.
-  pub archives_at : (archive : Bool) → views_of cs ≡ seated_actors shape script start log_only archive (length fs)
+  pub archives_at : views_of cs ≡ seated_actors shape script start plan
       → (m : ℕ) (s : ReaderState) → get_elem? (views_of cs) m ≡ maybe.some (model.Reader s) → archives s ≡ true
-      → m ≡ length (front archive)
-  archives_at archive are m s at kind =
-      let there : get_elem? (front archive ++ readers_of start archive (length fs)) m ≡ maybe.some (model.Reader s) =
+      → m ≡ length front
+  archives_at are m s at kind =
+      let there : get_elem? (front ++ readers_of start plan) m ≡ maybe.some (model.Reader s) =
       ap (λ (l : List model.Actor). get_elem? l m) (sym are) ∙ at in
-      elim (dec_le (length (front archive)) m) [
-        | yes more ↦ (let b = behind (front archive) (readers_of start archive (length fs)) m (model.Reader s) more there in
-            let first = archives_first start archive (length fs) b.place s b.there kind in
+      elim (dec_le (length front) m) [
+        | yes more ↦ (let b = behind front (readers_of start plan) m (model.Reader s) more there in
+            let first = archives_first start plan b.place s b.there kind in
             let is = b.is in omega arith)
-        | no less ↦ absurd (before archive m s (in_front (front archive) (readers_of start archive (length fs)) m (model.Reader s)
-            (omega arith) there))
+        | no less ↦ absurd (before m s (in_front front (readers_of start plan) m (model.Reader s) (omega arith) there))
       ]
 
-  count : (archive : Bool) → views_of cs ≡ seated_actors shape script start log_only archive (length fs)
-      → length cs ≡ length (front archive) + length (readers_of start archive (length fs))
-  count archive are = sym (length_views cs) ∙ ap length are
-      ∙ length-append (front archive) (readers_of start archive (length fs))
+  module _ (fs : List (Following R)) (many : plan.followers ≡ length fs) where
+    -- the readers where there is an archiver, or none
+    abbrev its_readers : Bool → List model.Actor
+    its_readers b = readers_of start (record plan { archive = b })
 
-  -- and the archiver is new
-  pub archiver_is : (archive : Bool) → views_of cs ≡ seated_actors shape script start log_only archive (length fs)
-      → EndsWithReaders start archive cs fs
-      → (m : ℕ) (s : ReaderState) → get_elem? cs m ≡ maybe.some (own.Archiver s)
-      → ◌≡◌ {A = ReaderState} s (new_reader 0 start)
-  archiver_is true are ends m s at =
-      let n = count true are in
-      let few = long_followers start FIRST_FOLLOWER (length fs) in
-      let k : ℕ = length cs - suc (length fs) in
-      elim (dec_le (length (front true)) m) [
-        | yes more ↦ by (m - k) (ap (λ (l : List (Actor R)). get_elem? l (m - k)) (sym ends)
-            ∙ dropped cs k m (own.Archiver s) (omega arith) at)
-        | no less ↦ absurd (before true m s (in_front (front true) (readers_of start true (length fs)) m (model.Reader s)
-            (omega arith) (ap (λ (l : List model.Actor). get_elem? l m) (sym are) ∙ views_at cs m (own.Archiver s) at)))
-      ]
-    where
-      by : (i : ℕ) → get_elem? (own.Archiver (new_reader 0 start) ∷ map own.Follower fs) i ≡ maybe.some (own.Archiver s)
-          → ◌≡◌ {A = ReaderState} s (new_reader 0 start)
-      by zero e = sym (one_archiver {R = R} (new_reader 0 start) s (maybe.some-injective _ (own.Archiver s) e))
-      by (suc i) e = absurd (no_archiver fs i s e)
-  archiver_is false are ends m s at =
-      let n = count false are in
-      let few = long_followers start FIRST_FOLLOWER (length fs) in
-      let k : ℕ = length cs - length fs in
-      elim (dec_le (length (front false)) m) [
-        | yes more ↦ absurd (no_archiver fs (m - k) s (ap (λ (l : List (Actor R)). get_elem? l (m - k)) (sym ends)
-            ∙ dropped cs k m (own.Archiver s) (omega arith) at))
-        | no less ↦ absurd (before false m s (in_front (front false) (readers_of start false (length fs)) m (model.Reader s)
-            (omega arith) (ap (λ (l : List model.Actor). get_elem? l m) (sym are) ∙ views_at cs m (own.Archiver s) at)))
-      ]
+    -- in front of them nobody archives
+    less_front : (b : Bool) → views_of cs ≡ front ++ its_readers b → (m : ℕ) (s : ReaderState)
+        → get_elem? cs m ≡ maybe.some (own.Archiver s) → m < length front → ⊥
+    less_front b are m s at less = before m s (in_front front (its_readers b) m (model.Reader s) less
+        (ap (λ (l : List model.Actor). get_elem? l m) (sym are) ∙ views_at cs m (own.Archiver s) at))
 
-  -- WHERE THE RUN IS ARCHIVED there is one.
-  pub archiver_there : views_of cs ≡ seated_actors shape script start log_only true (length fs)
-      → EndsWithReaders start true cs fs
+    count : (b : Bool) → views_of cs ≡ front ++ its_readers b → length cs ≡ length front + length (its_readers b)
+    count b are = sym (length_views cs) ∙ ap length are ∙ length-append front (its_readers b)
+
+    -- and the archiver is new
+    pub archiver_is : views_of cs ≡ seated_actors shape script start plan → EndsWithReaders start plan.archive cs fs
+        → (m : ℕ) (s : ReaderState) → get_elem? cs m ≡ maybe.some (own.Archiver s)
+        → ◌≡◌ {A = ReaderState} s (new_reader 0 start)
+    archiver_is = by plan.archive
+      where
+        one : (s : ReaderState) (i : ℕ)
+            → get_elem? (own.Archiver (new_reader 0 start) ∷ map own.Follower fs) i ≡ maybe.some (own.Archiver s)
+            → ◌≡◌ {A = ReaderState} s (new_reader 0 start)
+        one s zero e = sym (one_archiver {R = R} (new_reader 0 start) s (maybe.some-injective _ (own.Archiver s) e))
+        one s (suc i) e = absurd (no_archiver fs i s e)
+
+        by : (b : Bool) → views_of cs ≡ front ++ its_readers b → EndsWithReaders start b cs fs
+            → (m : ℕ) (s : ReaderState) → get_elem? cs m ≡ maybe.some (own.Archiver s)
+            → ◌≡◌ {A = ReaderState} s (new_reader 0 start)
+        by true are ends m s at =
+            let n = count true are in
+            let few = long_followers start FIRST_FOLLOWER plan.followers in
+            let k : ℕ = length cs - suc (length fs) in
+            elim (dec_le (length front) m) [
+              | yes more ↦ one s (m - k) (ap (λ (l : List (Actor R)). get_elem? l (m - k)) (sym ends)
+                  ∙ dropped cs k m (own.Archiver s) (omega arith) at)
+              | no less ↦ absurd (less_front true are m s at (omega arith))
+            ]
+        by false are ends m s at =
+            let n = count false are in
+            let few = long_followers start FIRST_FOLLOWER plan.followers in
+            let k : ℕ = length cs - length fs in
+            elim (dec_le (length front) m) [
+              | yes more ↦ absurd (no_archiver fs (m - k) s (ap (λ (l : List (Actor R)). get_elem? l (m - k)) (sym ends)
+                  ∙ dropped cs k m (own.Archiver s) (omega arith) at))
+              | no less ↦ absurd (less_front false are m s at (omega arith))
+            ]
+
+-- WHERE THE RUN IS ARCHIVED there is one.
+module _ {R : Type 0} (start : ℕ) (fs : List (Following R)) (cs : List (Actor R)) where
+  pub archiver_there : EndsWithReaders start true cs fs
       → get_elem? cs (length cs - suc (length fs)) ≡ maybe.some (own.Archiver (new_reader 0 start))
-  archiver_there are ends =
-      let n = count true are in
-      let few = long_followers start FIRST_FOLLOWER (length fs) in
-      at_first cs (length cs - suc (length fs)) ends
+  archiver_there = at_first cs (length cs - suc (length fs))
     where
       at_first : (l : List (Actor R)) (k : ℕ) → ◌≡◌ {A = List (Actor R)} (drop k l)
           (own.Archiver (new_reader 0 start) ∷ map own.Follower fs)

@@ -24,6 +24,7 @@ use Rattle.redo_drive.proofs.ArchiveTurns.{flushed_reserved}
 use Rattle.redo_drive.specs.Beginning.{IsRunWith}
 use Rattle.redo_drive.specs.{RunOf, run_log_side, RunsWith}
 use Rattle.redo_drive.specs.declared.parts.Parts.{Parts}
+use Rattle.redo_drive.specs.declared.plan.Plan.{Plan}
 use Rattle.redo_store.specs.declared.opened.Opened.{Opened}
 use Rattle.redo_rule.proofs.Retook.{at_map}
 
@@ -137,8 +138,7 @@ others_none false others P =
 
 module _ {L D : Type 0} {archive : Bool} (log_seen : L → Seen) (data_seen : D → Seen) (run : RunOf L D) (parts : Parts L D)
     (actors : List model.Actor) (R : RunsWith log_seen data_seen run archive parts actors) (opened : Opened L D)
-    (script : List ScriptLine) (log_only : Bool) (followers : ℕ)
-    (is_run : IsRunWith opened script false log_only archive followers run) where
+    (script : List ScriptLine) (plan : Plan) (is_run : IsRunWith opened script false plan run) where
   abbrev c : Setup
   c = run.setup
 

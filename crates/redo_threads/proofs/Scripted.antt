@@ -12,14 +12,15 @@ use Rattle.redo_drive.specs.Leaving.{LeavesWith}
 use Rattle.redo_drive.specs.{views_of}
 use Rattle.redo_drive.specs.declared.actor.Actor.{Actor}
 use Rattle.redo_drive.specs.declared.closed.Closed.{Closed}
+use Rattle.redo_drive.specs.declared.plan.Plan.{Plan}
 use Rattle.redo_store.specs.declared.opened.Opened.{Opened}
 use Rattle.redo_rule.proofs.Retook.{at_map}
 use Rattle.redo_threads.specs.InThreads.{AreActorsOf}
 
-module _ {L D F : Type 0} {archive : Bool} (log_seen : L → Seen) (log_gives : L → Call → L → Type 0) (data_seen : D → Seen)
+module _ {L D F : Type 0} (log_seen : L → Seen) (log_gives : L → Call → L → Type 0) (data_seen : D → Seen)
     (data_gives : D → Call → D → Type 0) (stands : F → List Given → Type 0) (opened : Opened L D)
-    (script : List ScriptLine) (log_only : Bool) (followers : ℕ) (starts actors : List (Actor F)) (closed : Closed L D)
-    (left : LeavesWith log_seen log_gives data_seen data_gives stands opened script log_only archive followers starts actors
+    (script : List ScriptLine) (plan : Plan) (starts actors : List (Actor F)) (closed : Closed L D)
+    (left : LeavesWith log_seen log_gives data_seen data_gives stands opened script plan starts actors
     closed) where
   user_at : (i : ℕ) (u : UserState) → get_elem? left.from.runs.seated.users i ≡ maybe.some u → get_elem? (views_of actors) i ≡ maybe.some (model.User u)
   user_at i u at = ap (λ (l : List model.Actor). get_elem? l i) left.from.runs.seated.are
@@ -28,7 +29,7 @@ module _ {L D F : Type 0} {archive : Bool} (log_seen : L → Seen) (log_gives : 
   its_lines : (i : ℕ) (u : UserState) → get_elem? left.from.runs.seated.users i ≡ maybe.some u → u.lines ≡ left.run.setup.script u.user
   its_lines i u at = (left.from.runs.running.both.logged.each i (model.User u) (user_at i u at)).lines
 
-  pub are_of_script : AreActorsOf script log_only (views_of actors)
+  pub are_of_script : AreActorsOf script plan.log_only (views_of actors)
   are_of_script = record {
     users = left.from.runs.seated.users;
     writer = left.from.runs.seated.writer;

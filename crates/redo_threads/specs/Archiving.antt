@@ -59,7 +59,7 @@ pub record Archives {L D A : Type 0} (seen : A → Seen) (gives : A → Call →
   pub told : v.about ≡ Some about
   -- the run is that of the script that its table was told
   pub fixed : about.live ≡ None
-  pub may : MayBegin about.opened.value about.script.value about.log_only
+  pub may : MayBegin about.opened.value about.script.value about.plan.log_only
   pub same : IsSameArchive seen gives before part
   pub flushed : ℕ
   pub pace : KeepsPace seen (end_about about) flushed r part
@@ -103,11 +103,11 @@ lost_of (Some part) = part.failed
 pub record BeginsWithReaders {L D F : Type 0} (shared : Shared L D F) (players : List (Player F)) : Type 0 where
   pub followers : List (Following F)
   pub new : AreNewFollowers (opened_of shared).start followers
-  pub many : shared.board.shared.key.followers ≡ length followers
+  pub many : shared.board.shared.key.plan.followers ≡ length followers
   pub work : Option LogWork
   pub works : is_some work ≡ own_of shared
   pub actors_are : starts_of shared ≡ views_of (crew work players)
-  pub readers : EndsWithReaders (opened_of shared).start shared.board.shared.key.archive (crew work players) followers
+  pub readers : EndsWithReaders (opened_of shared).start shared.board.shared.key.plan.archive (crew work players) followers
 
 -- a worker's seat has these words, if there is one
 abbrev pub IsLaidOut : {L D A F : Type 0} → Layout → Option (Worker L D A F) → Type 0

@@ -11,7 +11,7 @@ use crate::run::run_threads;
 use model_script::Script;
 use redo_archive::ArchPart;
 use redo_disk::Sectors;
-use redo_drive::{Actor, Driven, RunEnd};
+use redo_drive::{Actor, Driven, Plan, RunEnd};
 use redo_follow::{Follower, Receiver};
 use redo_lsn::NoMemory;
 use redo_ownrule::Shared;
@@ -57,16 +57,12 @@ pub fn drive_in_threads<
     ensures archived { IfOk result (λ left. HaveArchived L.seen D.seen A.seen A.gives opened script.now left.0.closed
         (views_of left.1.items) archive left.2) }
 {
-    let is_archived = archive.is_some();
-    let (shared, players) = match Shared::new(
-        alloc,
-        opened,
-        script,
+    let plan = Plan {
         log_only,
-        own_writes,
-        is_archived,
-        followers,
-    ) {
+        archive: archive.is_some(),
+        followers: followers.len() as u64,
+    };
+    let (shared, players) = match Shared::new(alloc, opened, script, plan, own_writes, followers) {
         Ok(made) => made,
         Err((none, log, data)) => return Err((none, log, data, archive)),
     };

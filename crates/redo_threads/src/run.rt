@@ -172,13 +172,13 @@ pub fn run_threads<
     requires unseated { IsUnseated shared players.items }
     requires fixed { IsFixed shared }
     requires readers { BeginsWithReaders shared players.items }
-    requires is_archived { shared.board.shared.key.archive ≡ is_some archive }
+    requires is_archived { shared.board.shared.key.plan.archive ≡ is_some archive }
     requires archive { IfSome archive (IsNewArchive A.seen (opened_of shared) (shared_script shared)) }
     ensures run { (work : Option LogWork) → is_some work ≡ own_of shared
         → HaveRun (views_of (crew work players.items)) (views_of result.1.items) result.0 }
     ensures leaves { (work : Option LogWork) → is_some work ≡ own_of shared
-        → LeavesWith L.seen L.gives D.seen D.gives F.stands_for (opened_of shared) (shared_script shared) shared.board.shared.key.log_only
-        shared.board.shared.key.archive shared.board.shared.key.followers (crew work players.items) result.1.items result.0 }
+        → LeavesWith L.seen L.gives D.seen D.gives F.stands_for (opened_of shared) (shared_script shared)
+        shared.board.shared.key.plan (crew work players.items) result.1.items result.0 }
     ensures owed { IsOwedRun L.seen L.gives D.seen D.gives (opened_of shared) (shared_script shared) (views_of result.1.items) result.0 }
     ensures reads { result.0.lost ≡ None → ReadsToMarks L.seen D.seen (opened_of shared) (shared_script shared) result.0 }
     ensures reaches { ReachesAll (views_of result.1.items) result.0 }

@@ -33,5 +33,5 @@ module _ {L D R : Type 0} where
     pub own : own_of shared ≡ false
     pub plays : ArePlaying (table_of shared) shared.layout seats players
     pub all : length players + workers (own_of shared) ≡ length (starts_of shared)
-    pub apart : shared.board.shared.key.archive ≡ false
+    pub apart : shared.board.shared.key.plan.archive ≡ false
     pub fixed : IsFixed shared

@@ -5,6 +5,7 @@ ghost use Rattle.redo_ownrule.specs.Sharing.{IsFixed, IsUnseated, own_of};
 ghost use Rattle.tests_threads.specs.Playing.{IsPlaying};
 
 use crate::store::{Device, Ready, Way, make_ready, no_followers};
+use redo_drive::Plan;
 use redo_follow::Tally;
 use redo_ownrule::{Player, Shared};
 use redo_rule::Seat;
@@ -28,19 +29,16 @@ fn shared_of(
     requires { MayBegin ready.opened ready.script log_only }
     ensures new { IfOk result (λ made. IsUnseated made.0 made.1.items) }
     ensures own { IfOk result (λ made. own_of made.0 ≡ false) }
-    ensures apart { IfOk result (λ made. made.0.board.shared.key.archive ≡ false) }
+    ensures apart { IfOk result (λ made. made.0.board.shared.key.plan.archive ≡ false) }
     ensures fixed { IfOk result (λ made. IsFixed made.0) }
 {
     let Ready { opened, script } = ready;
-    match Shared::new(
-        alloc,
-        opened,
-        &script,
+    let plan = Plan {
         log_only,
-        false,
-        false,
-        no_followers(alloc),
-    ) {
+        archive: false,
+        followers: 0,
+    };
+    match Shared::new(alloc, opened, &script, plan, false, no_followers(alloc)) {
         Ok(made) => Ok(made),
         Err(_) => Err(Fail::from("no memory")),
     }
@@ -50,7 +48,7 @@ fn shared_of(
 fn seated(mut shared: Shared<Device, Device, Tally>, players: Vec<Player<Tally>>) -> Playing
     requires new { IsUnseated shared players.items }
     requires own { own_of shared ≡ false }
-    requires apart { shared.board.shared.key.archive ≡ false }
+    requires apart { shared.board.shared.key.plan.archive ≡ false }
     requires fixed { IsFixed shared }
     ensures { IsPlaying result.shared result.seats.items result.players.items }
 {

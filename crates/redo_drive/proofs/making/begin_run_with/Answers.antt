@@ -10,15 +10,13 @@ pub returns-clause-begins : goal.returns-clause-begins
 returns-clause-begins g c =
     let opened = c.args.opened in
     let script = c.args.script.now in
-    let log_only = c.args.log_only in
-    let archive = c.args.archive in
+    let plan = c.args.plan in
     let followers = c.args.followers.items in
     if_made opened c.make_own_of-own.result c.begin_on.result
-    (IsOwnOf opened.shape opened.pages opened.start (seated_actors opened.shape script opened.start log_only archive
-    (length followers)) archive followers (length script))
-    (BeginsWith g.L.Sectors.seen g.D.Sectors.seen g.R.Receiver.stands_for opened script log_only archive followers)
+    (IsOwnOf opened.shape opened.pages opened.start (seated_actors opened.shape script opened.start plan)
+    plan.archive followers (length script))
+    (BeginsWith g.L.Sectors.seen g.D.Sectors.seen g.R.Receiver.stands_for opened script plan followers)
     c.begin_on.ensures.so c.make_own_of-own.ensures
-    (λ own owns. begins g.L.Sectors.seen g.D.Sectors.seen g.R.Receiver.stands_for opened script false log_only archive
-    followers
-    (seat_of_user opened.shape log_only script) (λ (b : Bool). users_of opened.shape b script)
-    (script_begins opened script log_only archive followers c.requires.may c.requires.new) own owns)
+    (λ own owns. begins g.L.Sectors.seen g.D.Sectors.seen g.R.Receiver.stands_for opened script false plan followers
+    (seat_of_user opened.shape plan.log_only script) (users_of opened.shape plan.log_only script)
+    (script_begins opened script plan followers c.requires.may c.requires.new) own owns)

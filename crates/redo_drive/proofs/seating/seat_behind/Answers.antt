@@ -12,24 +12,20 @@ use Rattle.redo_drive.proofs.seating.seat_behind.Goals as goal
 -- what is seated behind the other actors is in its seat
 so : (g : given.Over) (c : goal.After-seat_followers g) (v : Vec (Actor g.row.R.Denot) Global)
     → v.items ≡ c.in_ok-actors.actors.items ++ map own.Follower c.args.followers.items
-    → AreSeatedSo (views_of c.args.users.items) c.args.shape.now c.args.start c.args.log_only c.args.archive
+    → AreSeatedSo (views_of c.args.users.items) c.args.shape.now c.args.start c.args.plan
     c.args.followers.items v.items
 so g c v is =
     let users : List model.Actor = views_of c.args.users.items in
     let shape = c.args.shape.now in
     let start = c.args.start in
-    let log_only = c.args.log_only in
-    let archive = c.args.archive in
+    let plan = c.args.plan in
     let fs = c.args.followers.items in
     let before = c.in_ok-before.before.items in
-    let count : c.len-count.result ≡ length fs = omega arith in
-    let are : views_of before ≡ users ++ other_actors shape start log_only archive (length fs) =
-    c.in_ok-before.ensures
-    ∙ ap (λ (n : ℕ). let l : List model.Actor = users ++ other_actors shape start log_only archive n in l) count in
-    let joined : v.items ≡ (before ++ new_archiver start archive) ++ map own.Follower fs =
+    let are : views_of before ≡ users ++ other_actors shape start plan = c.in_ok-before.ensures in
+    let joined : v.items ≡ (before ++ new_archiver start plan.archive) ++ map own.Follower fs =
     is ∙ ap (λ (l : List (Actor g.row.R.Denot)). l ++ map own.Follower fs) c.in_ok-actors.ensures in
-    subst (AreSeatedSo users shape start log_only archive fs) (sym joined)
-    (seated_so users shape start log_only archive before fs c.requires.new are)
+    subst (AreSeatedSo users shape start plan fs) (sym joined)
+    (seated_so users shape start plan before fs c.requires.new are)
 
 pub returns-clause-actors : goal.returns-clause-actors
 returns-clause-actors g c =
@@ -37,7 +33,7 @@ returns-clause-actors g c =
     (λ (v : Vec (Actor g.row.R.Denot) Global). v.items ≡ c.in_ok-actors.actors.items
     ++ map own.Follower c.args.followers.items)
     (λ (v : Vec (Actor g.row.R.Denot) Global). views_of v.items ≡ with_others (views_of c.args.users.items)
-    c.args.shape.now c.args.start c.args.log_only c.args.archive (length c.args.followers.items))
+    c.args.shape.now c.args.start c.args.plan)
     (λ v is. (so g c v is).are) c.seat_followers.ensures
 
 pub returns-clause-readers : goal.returns-clause-readers
@@ -45,6 +41,6 @@ returns-clause-readers g c =
     if_seated c.seat_followers.result
     (λ (v : Vec (Actor g.row.R.Denot) Global). v.items ≡ c.in_ok-actors.actors.items
     ++ map own.Follower c.args.followers.items)
-    (λ (v : Vec (Actor g.row.R.Denot) Global). EndsWithReaders c.args.start c.args.archive v.items
+    (λ (v : Vec (Actor g.row.R.Denot) Global). EndsWithReaders c.args.start c.args.plan.archive v.items
     c.args.followers.items)
     (λ v is. (so g c v is).ends) c.seat_followers.ensures

@@ -20,9 +20,10 @@ pub loop-user-init : goal.loop-user-init
 loop-user-init g c =
     let shape = c.args.shape.now in
     let script = c.args.script.now in
-    let programs : ℕ → List Line = programs_of shape c.args.log_only script in
+    let programs : ℕ → List Line = programs_of shape c.args.plan.log_only script in
     ap views_of c.in_ok-actors.ensures.items
-    ∙ sym (none_first (run_layout shape).blocks programs (no_program shape script c.requires.lines c.requires.fits c.args.log_only 0 (λ in_range. let from = in_range.0 in omega arith)))
+    ∙ sym (none_first (run_layout shape).blocks programs (no_program shape script c.requires.lines c.requires.fits
+        c.args.plan.log_only 0 (λ in_range. let from = in_range.0 in omega arith)))
 
 pub new-requires-clause-lines : goal.new-requires-clause-lines
 new-requires-clause-lines g c =
@@ -35,14 +36,16 @@ loop-user-preserved g c =
     let shape = c.args.shape.now in
     let script = c.args.script.now in
     let user = c.loop-user.user in
-    let programs : ℕ → List Line = programs_of shape c.args.log_only script in
+    let programs : ℕ → List Line = programs_of shape c.args.plan.log_only script in
     let lines = c.in_ok-lines.lines.items in
     let own_lines : lines ≡ user_lines shape.space script user = c.in_ok-lines.ensures in
-    let long : length (programs user) ≡ length lines = program_length shape c.args.log_only script user ∙ ap length (sym own_lines) in
+    let long : length (programs user) ≡ length lines = program_length shape c.args.plan.log_only script user
+        ∙ ap length (sym own_lines) in
     elim c.if-not-is_empty.branch [
       | then-not-is_empty+in_ok-actor+in_ok-push w ↦
           let state : w.in_ok-actor.actor ≡ new_user user (run_layout shape).blocks (programs user) =
-          w.in_ok-actor.ensures ∙ ap (λ (l : List (ℕ × List Rec)). new_user user (run_layout shape).blocks (program_lines c.args.log_only shape l)) own_lines in
+          w.in_ok-actor.ensures ∙ ap (λ (l : List (ℕ × List Rec)). new_user user (run_layout shape).blocks
+              (program_lines c.args.plan.log_only shape l)) own_lines in
           let full = eqb-false (vec_len c.in_ok-lines.lines) 0 (sym w.if-not-is_empty.ensures) in
           let some_lines : 0 < length (programs user) = elim (dec_le 1 (length (programs user))) [
             | yes some ↦ some

@@ -7,4 +7,5 @@ use Rattle.redo_drive.proofs.users.seat_users.Given as goal
 use Rattle.model_log.specs.{run_layout}
 
 abbrev pub invariant-loop-user : goal.invariant-loop-user
-invariant-loop-user g l = views_of l.actors.items ≡ map actor.User (users_below (run_layout l.shape).blocks (programs_of l.shape l.log_only l.script) l.user)
+invariant-loop-user g l = views_of l.actors.items ≡ map actor.User
+    (users_below (run_layout l.shape).blocks (programs_of l.shape l.plan.log_only l.script) l.user)

@@ -4,7 +4,7 @@ use Rattle.model_report.specs.declared.entry.Entry.{Entry}
 use Rattle.std.proofs.lemmas.Result.{err_from_is_err_and}
 use Rattle.redo_archive.specs.Part.{Part}
 use Rattle.redo_drive.proofs.LogCount.{log_within_script}
-use Rattle.redo_drive.specs.{HasComeTo, HaveArchived, views_of}
+use Rattle.redo_drive.specs.{HasComeTo, HaveArchived, plan_with, views_of}
 use Rattle.redo_drive.specs.Followed.{HaveFollowed}
 use Rattle.redo_drive.specs.declared.actor.Actor.{Actor}
 use Rattle.redo_drive.specs.declared.drive.Driven.{Driven}
@@ -36,7 +36,8 @@ came g c =
           B.from.runs c.args.archive a)
           (sym c.in_ok-machine.ensures.archive)
           (comes g.L.Sectors.seen g.D.Sectors.seen g.A.Sectors.seen g.R.Receiver.stands_for c.args.opened c.args.script.now
-          c.args.turns.now.log_only (is_some c.args.archive) c.args.followers.items _ B c.requires.may g.A.Sectors.gives
+          (plan_with c.args.turns.now.log_only c.args.archive c.args.followers.items) c.args.followers.items _ B
+              c.requires.may g.A.Sectors.gives
           c.args.archive refl c.requires.archive);
     })
 
@@ -99,8 +100,9 @@ returns-clause-turns g c =
     let driven : Driven g.row.L.Denot g.row.D.Denot =
     record { ended = c.run-ended.result; closed = c.finish-closed.result.0 } in
     subst (λ (actors : List (Actor g.row.R.Denot)). RunsByTurns g.L.Sectors.seen g.L.Sectors.gives g.D.Sectors.seen
-    g.D.Sectors.gives false c.args.opened c.args.script.now c.args.turns.now (is_some c.args.archive)
-    (length c.args.followers.items) (views_of actors) driven) (sym c.finish-closed.ensures.kept.0)
+    g.D.Sectors.gives false c.args.opened c.args.script.now c.args.turns.now
+    (plan_with c.args.turns.now.log_only c.args.archive c.args.followers.items) (views_of actors) driven)
+        (sym c.finish-closed.ensures.kept.0)
     (by_turns g.L.Sectors.seen g.L.Sectors.gives g.D.Sectors.seen g.D.Sectors.gives g.A.Sectors.seen
     g.R.Receiver.stands_for c.args.opened c.args.script.now
     c.args.turns.now c.args.archive c.args.followers.items c.run-ended.new.self.actors.items driven

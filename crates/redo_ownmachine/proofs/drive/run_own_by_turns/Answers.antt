@@ -3,7 +3,7 @@ use Rattle.std.proofs.Common.{Option, length, rules, subst, sym}
 use Rattle.std.proofs.lemmas.Result.{err_from_is_err_and}
 use Rattle.redo_archive.specs.Part.{Part}
 use Rattle.redo_drive.proofs.LogCount.{log_within_script}
-use Rattle.redo_drive.specs.{HaveArchived, views_of}
+use Rattle.redo_drive.specs.{HaveArchived, plan_with, views_of}
 use Rattle.redo_ownmachine.proofs.RunLeft.{OwnTurnsLead, archived, by_turns, followed, owes}
 use Rattle.redo_ownmachine.proofs.drive.run_own_by_turns.Given as given
 use Rattle.redo_ownmachine.proofs.drive.run_own_by_turns.Goals as goal
@@ -36,10 +36,12 @@ leads g c =
     let within = log_within_script B.begins.run.setup c.args.script.now c.args.opened.shape R.running.shared.sn
     R.running.log_ghost.log R.running.log_ghost.place R.running.both.logged.global.tiled B.begins.is_run.of_script in
     let empty = no_entries g.L.Sectors.seen g.D.Sectors.seen g.R.Receiver.stands_for c.args.opened c.args.script.now
-    c.args.turns.now.log_only (is_some c.args.archive) c.args.followers.items c.in_ok-machine.machine
+    (plan_with c.args.turns.now.log_only c.args.archive c.args.followers.items) c.args.followers.items
+    c.in_ok-machine.machine
     c.run-ended.new.self B c.run-ended.ensures.seats in
     let room = for_all g.L.Sectors.seen g.D.Sectors.seen g.R.Receiver.stands_for c.args.opened c.args.script.now
-    c.args.turns.now.log_only (is_some c.args.archive) c.args.followers.items c.in_ok-machine.machine
+    (plan_with c.args.turns.now.log_only c.args.archive c.args.followers.items) c.args.followers.items
+    c.in_ok-machine.machine
     c.run-ended.new.self B c.run-ended.ensures.seats (length R.running.log_ghost.log) within in
     record {
       first = c.in_ok-machine.machine;

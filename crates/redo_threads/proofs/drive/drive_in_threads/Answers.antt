@@ -19,8 +19,8 @@ run_threads-closed-requires-clause-readers g c κs within =
       works = new.works ∙ sym new.own_is;
       actors_are = new.actors_are;
       readers = subst (λ b. EndsWithReaders (opened_of shared).start b (crew new.work c.in-Ok.made.1.items)
-          c.args.followers.items) (sym new.archive_is)
-          (subst (λ o. EndsWithReaders o.start c.is_some-is_archived.result (crew new.work c.in-Ok.made.1.items)
+          c.args.followers.items) (sym (ap (λ p. p.archive) new.plan_is))
+          (subst (λ o. EndsWithReaders o.start c.is_some.result (crew new.work c.in-Ok.made.1.items)
           c.args.followers.items) (sym new.opened_is) new.readers);
     }
 
@@ -47,9 +47,9 @@ returns-clause-says g c =
     let key = shared.board.shared.key in
     runs_in_threads g.L.Sectors.seen g.L.Sectors.gives g.D.Sectors.seen g.D.Sectors.gives (opened_of shared)
     c.args.opened (shared_script shared) c.args.script.now c.run_threads-closed.result.0 new.opened_is new.script_is
-    g.F.Receiver.stands_for key.log_only key.archive key.followers (crew new.work c.in-Ok.made.1.items)
+    g.F.Receiver.stands_for key.plan _ new.plan_is (crew new.work c.in-Ok.made.1.items)
     c.run_threads-closed.result.1.items (c.run_threads-closed.ensures.leaves new.work (new.works ∙ sym new.own_is))
-    c.args.log_only new.log_only_is (c.run_threads-closed.ensures.run new.work (new.works ∙ sym new.own_is))
+    (c.run_threads-closed.ensures.run new.work (new.works ∙ sym new.own_is))
 
 pub returns-clause-reads : goal.returns-clause-reads
 returns-clause-reads g c none =
@@ -74,12 +74,10 @@ returns-clause-followed g c =
     let key = shared.board.shared.key in
     followed g.L.Sectors.seen g.L.Sectors.gives g.D.Sectors.seen g.D.Sectors.gives (opened_of shared) c.args.opened
     (shared_script shared) c.args.script.now c.run_threads-closed.result.0 new.opened_is new.script_is
-    g.F.Receiver.stands_for key.log_only key.archive key.followers (crew new.work c.in-Ok.made.1.items)
+    g.F.Receiver.stands_for key.plan _ new.plan_is (crew new.work c.in-Ok.made.1.items)
     c.run_threads-closed.result.1.items (c.run_threads-closed.ensures.leaves new.work (new.works ∙ sym new.own_is))
-    c.args.followers.items c.requires.new
-    (subst (λ b. EndsWithReaders c.args.opened.start b (crew new.work c.in-Ok.made.1.items) c.args.followers.items)
-    (sym new.archive_is) new.readers) (sym (ap (starts_with key) new.fixed) ∙ new.actors_are)
-    new.followers_are
+    c.args.followers.items c.requires.new (sym (ap (λ p. p.followers) new.plan_is) ∙ new.followers_are) new.readers
+    (sym (ap (starts_with key) new.fixed) ∙ new.actors_are)
 
 pub returns-clause-archived : goal.returns-clause-archived
 returns-clause-archived g c =

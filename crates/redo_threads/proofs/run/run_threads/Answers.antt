@@ -80,8 +80,8 @@ finish-closed-requires-clause-rest g c = all_rest c.play_crew-crew.result.0.play
 -- what the run leaves, with what its seats have heard
 heard_so : (g : _) (c : After-drop-bells-20 g) (work : Option LogWork) → is_some work ≡ own_of c.args.shared
     → LeavesHeard g.L.Sectors.seen g.L.Sectors.gives g.D.Sectors.seen g.D.Sectors.gives g.F.Receiver.stands_for
-    (opened_of c.args.shared) (shared_script c.args.shared) c.args.shared.board.shared.key.log_only
-    c.args.shared.board.shared.key.archive c.args.shared.board.shared.key.followers (crew work c.args.players.items)
+    (opened_of c.args.shared) (shared_script c.args.shared) c.args.shared.board.shared.key.plan
+    (crew work c.args.players.items)
     c.finish-closed.result.1.items c.play_crew-crew.result.0.seats.items c.finish-closed.result.0
 heard_so g c work works =
     let x : Crew g.row.L.Denot g.row.D.Denot g.row.F.Denot = record { seats = c.seats-seats.result; players = c.args.players } in
@@ -95,8 +95,8 @@ heard_so g c work works =
     (all_same g.F.Receiver.stands_for table x y many keep)
     (have_heard g.F.Receiver.stands_for table x y many keep _ c.seats-seats.ensures.fresh) in
     subst (λ b. LeavesHeard g.L.Sectors.seen g.L.Sectors.gives g.D.Sectors.seen g.D.Sectors.gives
-    g.F.Receiver.stands_for b.shared.key.opened.value b.shared.key.script.value b.shared.key.log_only
-    b.shared.key.archive b.shared.key.followers (crew work starts) c.finish-closed.result.1.items y.seats.items
+    g.F.Receiver.stands_for b.shared.key.opened.value b.shared.key.script.value b.shared.key.plan
+    (crew work starts) c.finish-closed.result.1.items y.seats.items
     c.finish-closed.result.0) same left
 
 pub returns-clause-leaves : goal.returns-clause-leaves
@@ -119,7 +119,7 @@ returns-clause-run g c work works =
           (crew_later work end.work alike starts y.players.items same);
       ended = ended;
       answered = have_answered g.L.Sectors.seen g.L.Sectors.gives g.D.Sectors.seen g.D.Sectors.gives
-          g.F.Receiver.stands_for (opened_of c.args.shared) (shared_script c.args.shared) key.log_only key.followers
+          g.F.Receiver.stands_for (opened_of c.args.shared) (shared_script c.args.shared) key.plan
           (crew work starts) c.finish-closed.result.1.items c.finish-closed.result.0 (returns-clause-leaves g c work works) ended;
       listed = c.finish-closed.ensures.listed;
     }
@@ -130,7 +130,7 @@ returns-clause-reads g c kept =
     let end = c.finish-closed.ensures.actors in
     let works = end.works ∙ ap (λ b. b.shared.key.own_writes) c.seats-seats.ensures.same in
     reads_marks g.L.Sectors.seen g.L.Sectors.gives g.D.Sectors.seen g.D.Sectors.gives g.F.Receiver.stands_for
-    (opened_of c.args.shared) (shared_script c.args.shared) key.log_only key.followers
+    (opened_of c.args.shared) (shared_script c.args.shared) key.plan
     (crew end.work c.args.players.items) c.finish-closed.result.1.items (done_with c.finish-closed.result.0)
     (returns-clause-leaves g c end.work works) (c.requires.unseated.ready.may c.requires.fixed) kept
     c.finish-closed.ensures.rest
@@ -161,7 +161,7 @@ play_crew-crew-requires-clause-archive g c κs within = by c.args.archive refl
 
 pub finish-closed-requires-clause-lost : goal.finish-closed-requires-clause-lost
 finish-closed-requires-clause-lost g c =
-    subst (λ b. TellsLoss b.shared.key.archive (views_of (map actor_of y.players.items)) c.lost_by-lost.result)
+    subst (λ b. TellsLoss b.shared.key.plan.archive (views_of (map actor_of y.players.items)) c.lost_by-lost.result)
     (sym c.seats-seats.ensures.same) (by c.args.archive refl)
   where
     x : Crew g.row.L.Denot g.row.D.Denot g.row.F.Denot
@@ -170,7 +170,7 @@ finish-closed-requires-clause-lost g c =
     y : Crew g.row.L.Denot g.row.D.Denot g.row.F.Denot
     y = c.play_crew-crew.result.0
 
-    by : (a : Option (Part g.row.A.Denot)) → c.args.archive ≡ a → TellsLoss c.args.shared.board.shared.key.archive
+    by : (a : Option (Part g.row.A.Denot)) → c.args.archive ≡ a → TellsLoss c.args.shared.board.shared.key.plan.archive
         (views_of (map actor_of y.players.items)) c.lost_by-lost.result
     by None is =
         let gone : c.play_crew-crew.result.1 ≡ None =

@@ -8,7 +8,7 @@ use Rattle.redo_ownmachine.proofs.machine.OwnMachine.new.Goals as goal
 
 pub take_seats-requires : goal.take_seats-requires
 take_seats-requires g c = have_workers g.L.Sectors.seen g.D.Sectors.seen g.R.Receiver.stands_for c.args.opened
-    c.args.script.now c.args.log_only c.args.followers.items c.in-Ok.begun c.in-Ok.ensures.begins
+    c.args.script.now c.plan c.args.followers.items c.in-Ok.begun c.in-Ok.ensures.begins
 
 begun : goal.returns-in-Ok-take_seats-clause-begins
 begun g c =

@@ -100,7 +100,7 @@ returns g c =
     c.args.self.board.shared.key (own_of c.args.self) (heard_by c.args.seats.items) c.args.players.items
     c.close_table-log.result c.give_actors-actors.result.items F c.requires.fixed
     c.as_slice-2.result.now c.as_slice-2.ensures.value) c.requires.seated.ready.no_entries) in
-    let loss = its_losses c.args.self.board.shared.key.archive F.work c.args.players.items
+    let loss = its_losses c.args.self.board.shared.key.plan.archive F.work c.args.players.items
     c.give_actors-actors.result.items F.are c.args.lost c.requires.lost in
     let own = leaves_own g.L.Sectors.seen g.L.Sectors.gives g.D.Sectors.seen g.D.Sectors.gives
     c.args.self.board.shared.key F.all_heard c.give_actors-actors.result.items c.close_table-log.result F.parts _ refl
@@ -121,13 +121,11 @@ returns g c =
           loss c.requires.fixed (c.requires.seated.ready.may c.requires.fixed);
       reaches = reaches_all g.L.Sectors.seen g.L.Sectors.gives g.D.Sectors.seen g.D.Sectors.gives (λ r l. Unit {0})
           c.args.self.board.shared.key.opened.value c.args.self.board.shared.key.script.value
-          c.args.self.board.shared.key.log_only c.args.self.board.shared.key.archive
-          c.args.self.board.shared.key.followers
+          c.args.self.board.shared.key.plan
           c.give_actors-actors.result.items c.give_actors-actors.result.items _ own;
       cause = code_has_cause g.L.Sectors.seen g.L.Sectors.gives g.D.Sectors.seen g.D.Sectors.gives (λ r l. Unit {0})
           c.args.self.board.shared.key.opened.value c.args.self.board.shared.key.script.value
-          c.args.self.board.shared.key.log_only c.args.self.board.shared.key.archive
-          c.args.self.board.shared.key.followers
+          c.args.self.board.shared.key.plan
           c.give_actors-actors.result.items c.give_actors-actors.result.items _ own;
       loses = refl;
     }

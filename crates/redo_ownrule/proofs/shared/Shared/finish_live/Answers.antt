@@ -23,7 +23,7 @@ pub close_known-requires-clause-ends : goal.close_known-requires-clause-ends
 close_known-requires-clause-ends g c = λ words slots final.
     let V = c.requires.live in
     let E = ends_given g.L.Sectors.seen g.L.Sectors.gives g.D.Sectors.seen g.D.Sectors.gives c.args.self.board.shared.key V.live
-    V.is_live V.no_script V.apart V.alone c.requires.seated.ready.runnable c.args.self.board.shared.table_id
+    V.is_live V.no_script V.plan_is c.requires.seated.ready.runnable c.args.self.board.shared.table_id
     c.args.seats.items c.args.players.items c.as_slice.result.now c.as_slice.ensures.value c.requires.seats
     c.requires.others c.requires.rest c.take_all.new.first
     (c.take_all.ensures.all _ (given_out c.args.self.board.shared.table_id c.args.players.items
@@ -36,7 +36,7 @@ pub returns : goal.returns
 returns g c =
     let V = c.requires.live in
     leaves_given g.L.Sectors.seen g.L.Sectors.gives g.D.Sectors.seen g.D.Sectors.gives c.args.self.board.shared.key V.live
-    V.is_live V.no_script V.apart V.alone c.requires.seated.ready.runnable c.args.self.board.shared.table_id
+    V.is_live V.no_script V.plan_is c.requires.seated.ready.runnable c.args.self.board.shared.table_id
     c.args.seats.items c.args.players.items c.as_slice.result.now c.as_slice.ensures.value c.requires.seats
     c.requires.others c.requires.rest c.take_all.new.first
     (c.take_all.ensures.all _ (given_out c.args.self.board.shared.table_id c.args.players.items

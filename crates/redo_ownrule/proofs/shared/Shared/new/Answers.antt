@@ -17,7 +17,7 @@ use Rattle.redo_words.specs.{shape_layout}
 
 pub take_staff-requires : goal.take_staff-requires
 take_staff-requires g c = have_workers g.L.Sectors.seen g.D.Sectors.seen g.R.Receiver.stands_for c.args.opened
-    c.args.script.now c.args.log_only c.args.followers.items c.in_ok-parts.field-0 c.in_ok-parts.ensures.begins
+    c.args.script.now c.args.plan c.args.followers.items c.in_ok-parts.field-0 c.in_ok-parts.ensures.begins
 
 pub make_board-requires : goal.make_board-requires
 make_board-requires g c =
@@ -25,19 +25,17 @@ make_board-requires g c =
       opened = c.of-opened_is.result;
       script = c.of.result;
       live = None;
-      log_only = c.args.log_only;
-      archive = c.args.archive;
-      followers = c.len-count.result;
+      plan = c.args.plan;
       own_writes = c.args.own_writes;
     } in
     let start = c.in_ok-parts.field-0 in
     let B = about_begins g.L.Sectors.seen g.D.Sectors.seen g.R.Receiver.stands_for about c.args.followers.items
-    c.args.opened c.args.script.now c.args.log_only c.of-opened_is.ensures c.of.ensures refl start
+    c.args.opened c.args.script.now c.args.plan c.of-opened_is.ensures c.of.ensures refl start
     c.in_ok-parts.ensures.begins in
     let may = about_may g.L.Sectors.seen g.D.Sectors.seen g.R.Receiver.stands_for about c.args.followers.items
-    c.args.opened c.args.script.now c.args.log_only c.of-opened_is.ensures c.of.ensures refl c.requires.may in
+    c.args.opened c.args.script.now c.args.plan c.of-opened_is.ensures c.of.ensures refl c.requires.may in
     opens_players g.L.Sectors.seen g.D.Sectors.seen g.R.Receiver.stands_for about refl c.args.followers.items
-    (let n = c.len-count.ensures in omega arith) start B may c.in-Ok.field-0 c.in-Ok.ensures g.L.Sectors.gives
+    start B may c.in-Ok.field-0 c.in-Ok.ensures g.L.Sectors.gives
     g.D.Sectors.gives c.in-Ok-lay_out.ensures.slots.1 (replicate BLOCK_SIZE 0) _ _ c.as_slice.ensures.words
     (c.in-Ok-lay_out.ensures.slots.0
     ∙ ap (λ (k : Option LogWork). laid (record { part = start.parts.log; block = replicate BLOCK_SIZE 0; work = k })
@@ -57,37 +55,33 @@ returns-in-Ok-make_board-clause-new g c =
       opened = c.of-opened_is.result;
       script = c.of.result;
       live = None;
-      log_only = c.args.log_only;
-      archive = c.args.archive;
-      followers = c.len-count.result;
+      plan = c.args.plan;
       own_writes = c.args.own_writes;
     } in
     let start = c.in_ok-parts.field-0 in
-    let many : c.len-count.result ≡ length c.args.followers.items = let n = c.len-count.ensures in omega arith in
     let B = about_begins g.L.Sectors.seen g.D.Sectors.seen g.R.Receiver.stands_for about c.args.followers.items
-    c.args.opened c.args.script.now c.args.log_only c.of-opened_is.ensures c.of.ensures refl start
+    c.args.opened c.args.script.now c.args.plan c.of-opened_is.ensures c.of.ensures refl start
     c.in_ok-parts.ensures.begins in
     let may = about_may g.L.Sectors.seen g.D.Sectors.seen g.R.Receiver.stands_for about c.args.followers.items
-    c.args.opened c.args.script.now c.args.log_only c.of-opened_is.ensures c.of.ensures refl c.requires.may in
+    c.args.opened c.args.script.now c.args.plan c.of-opened_is.ensures c.of.ensures refl c.requires.may in
     let made = c.in-Ok-make_board.ensures in
     record {
       opened_is = ap (λ (z : About _ _). z.opened.value) made.key ∙ c.of-opened_is.ensures;
       script_is = ap (λ (z : About _ _). z.script.value) made.key ∙ c.of.ensures;
-      log_only_is = ap (λ (z : About _ _). z.log_only) made.key;
+      plan_is = ap (λ (z : About _ _). z.plan) made.key;
       own_is = ap (λ (z : About _ _). z.own_writes) made.key;
-      followers_are = ap (λ (z : About _ _). z.followers) made.key ∙ many;
+      followers_are = ap (λ (z : About _ _). z.plan.followers) made.key ∙ c.requires.new.many;
       fixed = ap (λ (z : About _ _). z.live) made.key;
       work = c.in-Ok.field-0.work;
       works = c.in-Ok.ensures.works;
       actors_are = ap (λ (z : About _ _). starts_about z) made.key
-          ∙ starts_are g.L.Sectors.seen g.D.Sectors.seen g.R.Receiver.stands_for about refl c.args.followers.items many
+          ∙ starts_are g.L.Sectors.seen g.D.Sectors.seen g.R.Receiver.stands_for about refl c.args.followers.items
           start B may c.in-Ok.field-0 c.in-Ok.ensures;
-      archive_is = ap (λ (z : About _ _). z.archive) made.key;
-      readers = subst (λ (l : List (Actor g.row.R.Denot)). EndsWithReaders c.args.opened.start c.args.archive l
+      readers = subst (λ (l : List (Actor g.row.R.Denot)). EndsWithReaders c.args.opened.start c.args.plan.archive l
           c.args.followers.items)
           (sym c.in-Ok.ensures.are) c.in_ok-parts.ensures.begins.followers;
       unseated = unseated g.L.Sectors.seen g.D.Sectors.seen g.R.Receiver.stands_for about refl c.args.followers.items
-          many start B may c.in-Ok.field-0 c.in-Ok.ensures
+          start B may c.in-Ok.field-0 c.in-Ok.ensures
           (record {
             board = c.in-Ok-make_board.board;
             first = c.in-Ok-make_board.first;

@@ -1,7 +1,7 @@
 use Rattle.std.proofs.Common.{Some, ap, arith, false, length, refl, subst, sym, ◌∙◌}
 use Rattle.std.specs.Prelude.{replicate}
 use Rattle.model_base.specs.declared.limits.TheConstants.{BLOCK_SIZE}
-use Rattle.redo_drive.specs.LiveActors.{live_actors}
+use Rattle.redo_drive.specs.LiveActors.{live_actors, live_plan}
 use Rattle.redo_ownrule.proofs.LiveOpened.{about_live, about_short, actors_are, opens_so, players_are, unseated}
 use Rattle.redo_ownrule.proofs.shared.Shared.new_live.Goals as goal
 use Rattle.redo_rule.specs.declared.law.About.{About}
@@ -17,18 +17,16 @@ make_board-requires g c =
       opened = c.of-opened_is.result;
       script = c.of.result;
       live = Some live;
-      log_only = c.args.log_only;
-      archive = false;
-      followers = 0;
+      plan = live_plan c.args.log_only;
       own_writes = false;
     } in
     let start = c.in_ok-parts.field-0 in
-    let B = about_live g.L.Sectors.seen g.D.Sectors.seen g.R.Receiver.stands_for about live refl refl refl c.args.opened
+    let B = about_live g.L.Sectors.seen g.D.Sectors.seen g.R.Receiver.stands_for about live refl refl c.args.opened
     c.of-opened_is.ensures start c.in_ok-parts.ensures.begins in
-    let short = about_short g.L.Sectors.seen g.D.Sectors.seen g.R.Receiver.stands_for about live refl refl refl
+    let short = about_short g.L.Sectors.seen g.D.Sectors.seen g.R.Receiver.stands_for about live refl refl
     c.args.opened c.of-opened_is.ensures start c.in_ok-parts.ensures.begins c.requires.short in
     opens_so g.L.Sectors.seen g.L.Sectors.gives g.D.Sectors.seen g.D.Sectors.gives g.R.Receiver.stands_for about live
-    refl (c.of.ensures ∙ c.new.ensures.items) refl refl refl start B short c.in-Ok.field-0 c.in-Ok.ensures
+    refl (c.of.ensures ∙ c.new.ensures.items) refl refl start B short c.in-Ok.field-0 c.in-Ok.ensures
     c.in-Ok-lay_out.ensures.slots.1 (replicate BLOCK_SIZE 0) _ _ c.as_slice.ensures.words
     c.in-Ok-lay_out.ensures.slots.0
 
@@ -47,37 +45,33 @@ returns-in-Ok-make_board-clause-new g c =
       opened = c.of-opened_is.result;
       script = c.of.result;
       live = Some live;
-      log_only = c.args.log_only;
-      archive = false;
-      followers = 0;
+      plan = live_plan c.args.log_only;
       own_writes = false;
     } in
     let start = c.in_ok-parts.field-0 in
-    let B = about_live g.L.Sectors.seen g.D.Sectors.seen g.R.Receiver.stands_for about live refl refl refl c.args.opened
+    let B = about_live g.L.Sectors.seen g.D.Sectors.seen g.R.Receiver.stands_for about live refl refl c.args.opened
     c.of-opened_is.ensures start c.in_ok-parts.ensures.begins in
-    let short = about_short g.L.Sectors.seen g.D.Sectors.seen g.R.Receiver.stands_for about live refl refl refl
+    let short = about_short g.L.Sectors.seen g.D.Sectors.seen g.R.Receiver.stands_for about live refl refl
     c.args.opened c.of-opened_is.ensures start c.in_ok-parts.ensures.begins c.requires.short in
     let made = c.in-Ok-make_board.ensures in
     record {
       opened_is = ap (λ (z : About _ _). z.opened.value) made.key ∙ c.of-opened_is.ensures;
       is_live = ap (λ (z : About _ _). z.live) made.key;
       no_script = ap (λ (z : About _ _). z.script.value) made.key ∙ c.of.ensures ∙ c.new.ensures.items;
-      log_only_is = ap (λ (z : About _ _). z.log_only) made.key;
+      plan_is = ap (λ (z : About _ _). z.plan) made.key;
       own_is = ap (λ (z : About _ _). z.own_writes) made.key;
-      archive_is = ap (λ (z : About _ _). z.archive) made.key;
-      followers_are = ap (λ (z : About _ _). z.followers) made.key;
       layout_is = refl;
       actors_are =
           players_are g.L.Sectors.seen g.L.Sectors.gives g.D.Sectors.seen g.D.Sectors.gives g.R.Receiver.stands_for
-          about live refl (c.of.ensures ∙ c.new.ensures.items) refl refl refl start B short c.in-Ok.field-0
+          about live refl (c.of.ensures ∙ c.new.ensures.items) refl refl start B short c.in-Ok.field-0
           c.in-Ok.ensures
           ∙ actors_are g.L.Sectors.seen g.L.Sectors.gives g.D.Sectors.seen g.D.Sectors.gives g.R.Receiver.stands_for
-          about live refl (c.of.ensures ∙ c.new.ensures.items) refl refl refl start B short c.in-Ok.field-0
+          about live refl (c.of.ensures ∙ c.new.ensures.items) refl refl start B short c.in-Ok.field-0
           c.in-Ok.ensures
-          ∙ ap (λ (o : Opened _ _). live_actors o.shape live.users o.start c.args.log_only false 0)
+          ∙ ap (λ (o : Opened _ _). live_actors o.shape live.users o.start (live_plan c.args.log_only))
           c.of-opened_is.ensures;
       unseated = unseated g.L.Sectors.seen g.L.Sectors.gives g.D.Sectors.seen g.D.Sectors.gives g.R.Receiver.stands_for
-          about live refl (c.of.ensures ∙ c.new.ensures.items) refl refl refl start B short c.in-Ok.field-0
+          about live refl (c.of.ensures ∙ c.new.ensures.items) refl refl start B short c.in-Ok.field-0
           c.in-Ok.ensures
           (record {
             board = c.in-Ok-make_board.board;

@@ -26,6 +26,6 @@ returns c =
       all = subst (λ b. length players + workers b.shared.key.own_writes ≡ length (starts_about b.shared.key))
           (sym same)
           c.requires.new.count;
-      apart = ap (λ b. b.shared.key.archive) same ∙ c.requires.apart;
+      apart = ap (λ b. b.shared.key.plan.archive) same ∙ c.requires.apart;
       fixed = ap (λ b. b.shared.key.live) same ∙ c.requires.fixed;
     }
