@@ -188,7 +188,7 @@ starts_with {R} shape script start plan fs starts many are ends =
         long_followers start FIRST_FOLLOWER plan.followers ∙ many in
         joined (suc (length fs))
         (front_has_none front (readers_of start (record plan { archive = true })) starts (suc (length fs)) are
-            (ap suc few) none)
+        (ap suc few) none)
         ∙ ap followers_in ends ∙ all_followers fs
     by false front are none ends =
         let few : length (followers_from start FIRST_FOLLOWER plan.followers) ≡ length fs =

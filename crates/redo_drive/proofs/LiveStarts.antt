@@ -1,12 +1,9 @@
 -- The run of a script, and a live run, can begin; what memory was taken for begins so.
-use Rattle.std.proofs.Common.{Bool, Err, List, Ok, Result, [], ap, arith, false, length, map, refl, subst, sym, true, ℕ, ◌+◌, ◌<◌, ◌∙◌, ◌≡◌, ◌≤◌}
+use Rattle.std.proofs.Common.{Bool, Err, List, Ok, Result, [], ap, arith, false, refl, subst, sym, true, ℕ, ◌+◌, ◌<◌, ◌∙◌, ◌≡◌}
 use Rattle.std.specs.Prelude.{IfOk}
-use lib.ListN.{get_elem?}
-use mathlib.Core.Option.{some, some-ne-none}
+use mathlib.Core.Option.{some-ne-none}
 use Rattle.model_base.specs.declared.limits.TheConstants.{LSN_LIMIT}
 use Rattle.model_core.specs.{lsn}
-use Rattle.model_core.specs.States as actor
-use Rattle.model_core.specs.declared.limits.TheConstants.{READERS}
 use Rattle.model_log.specs.{run_layout, sn_of}
 use Rattle.model_logcore.specs.{left_to_reserve, sum_over_actors}
 use Rattle.model_script.specs.declared.script.ScriptLine.{ScriptLine}
@@ -19,7 +16,6 @@ use Rattle.redo_drive.specs.Setups.{users_of}
 use Rattle.redo_drive.specs.Startable.{HasNewFollowers, MayBegin}
 use Rattle.redo_drive.specs.declared.making.Beginning.{Beginning}
 use Rattle.redo_drive.specs.declared.memory.Own.{Own}
-use Rattle.redo_drive.specs.declared.seating.TheConstants.{FIRST_FOLLOWER}
 use Rattle.redo_drive.specs.declared.plan.Plan.{Plan}
 use Rattle.redo_follow.specs.Following.{Following}
 use Rattle.redo_store.specs.{IsRunnable}
@@ -60,7 +56,7 @@ live_begins opened users log_only runnable below = record {
   firsts = are_idle opened.shape users log_only;
   room =
       let none : sum_over_actors left_to_reserve (live_actors opened.shape users opened.start (live_plan log_only))
-          ≡ 0 =
+      ≡ 0 =
       live_reserve opened.shape users opened.start (live_plan log_only) in
       let end : sn_of opened.start
       + sum_over_actors left_to_reserve (live_actors opened.shape users opened.start (live_plan log_only))

@@ -1,5 +1,5 @@
 -- New actors, the words of a start and empty lists stand at the beginning of a run.
-use Rattle.std.proofs.Common.{Bool, List, None, Option, Some, [], ap, append-nil, arith, cond, false, length, ltb, map, refl, slice_get, slice_index, subst, suc, sym, true, zero, ℕ, ◌%◌, ◌*◌, ◌+◌, ◌-◌, ◌/◌, ◌<◌, ◌∙◌, ◌∷◌, ◌≡◌}
+use Rattle.std.proofs.Common.{Bool, List, None, Option, Some, [], ap, append-nil, arith, cond, false, length, ltb, map, refl, slice_get, slice_index, subst, suc, sym, true, zero, ℕ, ◌%◌, ◌*◌, ◌+◌, ◌-◌, ◌/◌, ◌<◌, ◌∙◌, ◌∷◌, ◌≡◌, ◌≤◌}
 use Rattle.std.proofs.lemmas.Bool.{le-ltb}
 use Rattle.std.proofs.lemmas.List.{get_or_past}
 use Rattle.std.specs.List.{AllByRecursion}
@@ -250,8 +250,11 @@ module _ {L D R : Type 0} (log_seen : L → Seen) (data_seen : D → Seen) (stan
     its_pages = refl;
     its_page_size = refl;
     followers = none_archives plan.archive;
-    bytes = record { opened = owns.bytes; cells = λ user j k i. lines_get_bytes opened.shape opened.pages opened.start
-        script plan.log_only can.fits user j k i };
+    bytes = record {
+      opened = owns.bytes;
+      cells = λ user j k i. lines_get_bytes opened.shape opened.pages opened.start
+          script plan.log_only can.fits user j k i;
+    };
     its_slots = refl;
     list_pages = ap (λ (lists : Listings). lists.pages) owns.lists;
     running = is_running;

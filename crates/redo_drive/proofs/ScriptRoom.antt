@@ -149,7 +149,7 @@ pub room_for_all : (shape : Shape) (script : List ScriptLine) (start : ℕ) (pla
 room_for_all shape script start plan fits room =
     let sum = actors_reserve shape script start plan fits in
     let end : sn_of start + sum_over_actors left_to_reserve (seated_actors shape script start plan)
-        ≡ sn_of start + length (stream_of (map (group_of shape.space) script)) = omega arith in
+    ≡ sn_of start + length (stream_of (map (group_of shape.space) script)) = omega arith in
     subst (λ (n : ℕ). lsn n < LSN_LIMIT) (sym end) (subst (λ (n : ℕ). n < LSN_LIMIT) (sym (lsn_is (sn_of start + length (stream_of (map (group_of shape.space) script))))) room)
 
 -- users that have no lines reserve nothing

@@ -133,8 +133,11 @@ module _ (shape : Shape) (pages : List Content) (start : ℕ) (script : List Scr
         (record { start = (refl, refl); with_pages = tt })
     pages_start false is (suc (suc zero)) a at =
         subst (IsHere (length users + 4)) (some-injective (actor.Checkpointer new_last) a at) (record {
-          start = (refl, ap (λ (x : ℕ). new_checkpointer x (first_reader plan.archive)
-              (FIRST_FOLLOWER + plan.followers)) (sym place));
+          start = (
+            refl,
+            ap (λ (x : ℕ). new_checkpointer x (first_reader plan.archive)
+                (FIRST_FOLLOWER + plan.followers)) (sym place),
+          );
           with_pages = sym is;
         })
     pages_start false is (suc (suc (suc i))) a at = absurd (some-ne-none a (sym at))

@@ -11,8 +11,6 @@ use Rattle.redo_drive.specs.Asking.{code_of, AskOfParts}
 use Rattle.redo_drive.specs.declared.parts.Parts.{Parts}
 use Rattle.model_core.specs.States as model
 use Rattle.model_core.specs.declared.ops.Op.{Op}
-use Rattle.redo_logdev.specs.Part as log
-use Rattle.redo_store.specs.Part as store
 
 -- the answer to a call that ended so, and told this number
 abbrev pub call_answer : Device → Option DevError → ℕ → Answer

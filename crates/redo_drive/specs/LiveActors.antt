@@ -1,5 +1,5 @@
 -- The actors of a live run, into which lines are handed while it goes on, as it begins; and those before the readers.
-use Rattle.std.specs.Prelude.{Bool, List, [], false, map, suc, zero, ℕ, ◌++◌, ◌∷◌, ◌+◌}
+use Rattle.std.specs.Prelude.{Bool, List, [], false, map, suc, zero, ℕ, ◌++◌, ◌∷◌}
 use Rattle.model_base.specs.declared.shape.Shape.{Shape}
 use Rattle.model_core.specs.{Actor, new_user, UserState}
 use Rattle.model_core.specs.States as actor

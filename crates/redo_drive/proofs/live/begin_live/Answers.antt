@@ -1,4 +1,4 @@
-use Rattle.std.proofs.Common.{Bool, [], false, true}
+use Rattle.std.proofs.Common.{[], false, true}
 use Rattle.model_log.specs.{run_layout}
 use Rattle.redo_drive.proofs.FirstUsers.{idle_seat}
 use Rattle.redo_drive.proofs.LiveStarts.{if_made, live_begins}

@@ -1,4 +1,4 @@
-use Rattle.std.proofs.Common.{Bool, false, length}
+use Rattle.std.proofs.Common.{false, length}
 use Rattle.redo_drive.proofs.FirstUsers.{seat_of_user}
 use Rattle.redo_drive.proofs.LiveStarts.{if_made, script_begins}
 use Rattle.redo_drive.proofs.RunStarts.{begins}

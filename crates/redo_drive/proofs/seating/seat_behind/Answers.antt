@@ -1,4 +1,4 @@
-use Rattle.std.proofs.Common.{Global, List, Vec, ap, arith, length, map, subst, sym, ℕ, ◌++◌, ◌∙◌, ◌≡◌}
+use Rattle.std.proofs.Common.{Global, List, Vec, ap, map, subst, sym, ◌++◌, ◌∙◌, ◌≡◌}
 use Rattle.model_core.specs.States as model
 use Rattle.redo_drive.proofs.SeatedFollowers.{AreSeatedSo, if_seated, seated_so}
 use Rattle.redo_drive.specs.Begins.{EndsWithReaders, new_archiver}

@@ -1,4 +1,4 @@
-use Rattle.std.proofs.Common.{Global, List, Vec, [], ap, arith, map, suc, ℕ, ◌++◌, ◌+◌, ◌∙◌, ◌∷◌, ◌≡◌, sym}
+use Rattle.std.proofs.Common.{List, [], ap, arith, map, suc, ℕ, ◌++◌, ◌+◌, ◌∙◌, ◌∷◌, ◌≡◌, sym}
 use Rattle.std.proofs.lemmas.List.{map-append}
 use Rattle.model_core.specs.States as actor
 use Rattle.model_core.specs.{Actor, new_user, UserState}

@@ -23,7 +23,7 @@ loop-user-init g c =
     let programs : ℕ → List Line = programs_of shape c.args.plan.log_only script in
     ap views_of c.in_ok-actors.ensures.items
     ∙ sym (none_first (run_layout shape).blocks programs (no_program shape script c.requires.lines c.requires.fits
-        c.args.plan.log_only 0 (λ in_range. let from = in_range.0 in omega arith)))
+    c.args.plan.log_only 0 (λ in_range. let from = in_range.0 in omega arith)))
 
 pub new-requires-clause-lines : goal.new-requires-clause-lines
 new-requires-clause-lines g c =
@@ -40,12 +40,12 @@ loop-user-preserved g c =
     let lines = c.in_ok-lines.lines.items in
     let own_lines : lines ≡ user_lines shape.space script user = c.in_ok-lines.ensures in
     let long : length (programs user) ≡ length lines = program_length shape c.args.plan.log_only script user
-        ∙ ap length (sym own_lines) in
+    ∙ ap length (sym own_lines) in
     elim c.if-not-is_empty.branch [
       | then-not-is_empty+in_ok-actor+in_ok-push w ↦
           let state : w.in_ok-actor.actor ≡ new_user user (run_layout shape).blocks (programs user) =
           w.in_ok-actor.ensures ∙ ap (λ (l : List (ℕ × List Rec)). new_user user (run_layout shape).blocks
-              (program_lines c.args.plan.log_only shape l)) own_lines in
+          (program_lines c.args.plan.log_only shape l)) own_lines in
           let full = eqb-false (vec_len c.in_ok-lines.lines) 0 (sym w.if-not-is_empty.ensures) in
           let some_lines : 0 < length (programs user) = elim (dec_le 1 (length (programs user))) [
             | yes some ↦ some
