@@ -107,7 +107,7 @@ module _ {L D R : Type 0} (log_seen : L → Seen) (data_seen : D → Seen) (stan
     (opened : Opened L D) (script : List ScriptLine) (plan : Plan) (followers : List (Following R))
     (start : Beginning L D R)
     (begins : BeginsWith log_seen data_seen stands opened script plan followers start)
-        (may : MayBegin opened script plan.log_only)
+    (may : MayBegin opened script plan.log_only)
     (alone : plan.log_only ≡ true) (unarchived : plan.archive ≡ false) (none : plan.followers ≡ 0) where
   abbrev run : RunOf L D
   run = begins.run

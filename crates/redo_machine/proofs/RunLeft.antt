@@ -1,5 +1,5 @@
 -- What a run by turns leaves, and so what it comes to.
-use Rattle.std.proofs.Common.{Bool, List, Option, ap, arith, cond, false, is_some, length, refl, slice_index, subst, sym, true, ℕ, ◌∙◌, ◌<◌, ◌≡◌}
+use Rattle.std.proofs.Common.{List, Option, ap, arith, cond, false, is_some, length, refl, slice_index, subst, sym, true, ℕ, ◌∙◌, ◌<◌, ◌≡◌}
 use Rattle.model_core.specs.{Core, Given, HasLost, lsn, failed_at}
 use Rattle.model_running.proofs.OpenLines as open_lines
 use Rattle.model_running.proofs.Seated.{seated_seats}
@@ -95,7 +95,7 @@ module _ {L D A R : Type 0} {arch_gives : A → Call → A → Type 0} (log_seen
   are_few may count user spent only unarchived none =
       let all = is_spent count user spent in
       let few = alone.spent_are_fewer log_seen data_seen stands opened script
-          (plan_with turns.log_only before followers)
+      (plan_with turns.log_only before followers)
       followers by.first by.begins may only unarchived none
       turns.seed turns.max user last
       (plain_spent (run_log_side log_seen data_seen run) (run_data_side log_seen data_seen run)
@@ -197,7 +197,7 @@ module _ {L D A R : Type 0} {arch_gives : A → Call → A → Type 0} (log_seen
   pub owes : MayBegin opened script turns.log_only → Owes log_seen log_gives data_seen data_gives opened script driven
   owes may = left_run.owes log_seen log_gives data_seen data_gives stands opened script
       (plan_with turns.log_only before followers) by.first.actors.items actors driven leaves may.runnable has_ended
-          leaves_open
+      leaves_open
 
   pub followed : AreNewFollowers opened.start followers → HaveFollowed log_seen data_seen stands opened script
       followers actors driven.closed
@@ -211,4 +211,4 @@ module _ {L D A R : Type 0} {arch_gives : A → Call → A → Type 0} (log_seen
   unfolding leaves
   archived = have_archived log_seen log_gives data_seen data_gives arch_seen arch_gives stands opened script
       (plan_with turns.log_only before followers) by.first.actors.items actors driven leaves before after by.come
-          by.lost
+      by.lost

@@ -1,5 +1,5 @@
 -- The machine begins the run, its turns lead to the end, and what `finish` tells of that end is what the run comes to.
-use Rattle.std.proofs.Common.{Global, List, Option, Vec, arith, false, is_some, length, refl, rules, subst, sym, vec_capacity, ◌≤◌}
+use Rattle.std.proofs.Common.{Global, List, Option, Vec, arith, false, is_some, length, refl, subst, sym, vec_capacity, ◌≤◌}
 use Rattle.model_report.specs.declared.entry.Entry.{Entry}
 use Rattle.std.proofs.lemmas.Result.{err_from_is_err_and}
 use Rattle.redo_archive.specs.Part.{Part}
@@ -37,7 +37,7 @@ came g c =
           (sym c.in_ok-machine.ensures.archive)
           (comes g.L.Sectors.seen g.D.Sectors.seen g.A.Sectors.seen g.R.Receiver.stands_for c.args.opened c.args.script.now
           (plan_with c.args.turns.now.log_only c.args.archive c.args.followers.items) c.args.followers.items _ B
-              c.requires.may g.A.Sectors.gives
+          c.requires.may g.A.Sectors.gives
           c.args.archive refl c.requires.archive);
     })
 
@@ -102,7 +102,7 @@ returns-clause-turns g c =
     subst (λ (actors : List (Actor g.row.R.Denot)). RunsByTurns g.L.Sectors.seen g.L.Sectors.gives g.D.Sectors.seen
     g.D.Sectors.gives false c.args.opened c.args.script.now c.args.turns.now
     (plan_with c.args.turns.now.log_only c.args.archive c.args.followers.items) (views_of actors) driven)
-        (sym c.finish-closed.ensures.kept.0)
+    (sym c.finish-closed.ensures.kept.0)
     (by_turns g.L.Sectors.seen g.L.Sectors.gives g.D.Sectors.seen g.D.Sectors.gives g.A.Sectors.seen
     g.R.Receiver.stands_for c.args.opened c.args.script.now
     c.args.turns.now c.args.archive c.args.followers.items c.run-ended.new.self.actors.items driven

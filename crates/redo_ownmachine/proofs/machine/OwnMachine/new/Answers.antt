@@ -1,6 +1,8 @@
-use Rattle.std.proofs.Common.{Bool, List, ap, arith, length, refl, subst}
+use Rattle.std.proofs.Common.{List, ap, arith, length, refl, subst, ◌≡◌}
+use Rattle.redo_drive.specs.{plan_with}
 use Rattle.redo_drive.specs.Begins.{BeginsWith}
 use Rattle.redo_drive.specs.declared.actor.Actor.{Actor}
+use Rattle.redo_drive.specs.declared.plan.Plan.{Plan}
 use Rattle.redo_ownmachine.proofs.Begins.{have_workers, own_begins}
 use Rattle.redo_ownmachine.proofs.Places.{crew_length}
 use Rattle.redo_ownmachine.proofs.Starts.{on_its_run}
@@ -8,7 +10,7 @@ use Rattle.redo_ownmachine.proofs.machine.OwnMachine.new.Goals as goal
 
 pub take_seats-requires : goal.take_seats-requires
 take_seats-requires g c = have_workers g.L.Sectors.seen g.D.Sectors.seen g.R.Receiver.stands_for c.args.opened
-    c.args.script.now c.plan c.args.followers.items c.in-Ok.begun c.in-Ok.ensures.begins
+    c.args.script.now _ c.args.followers.items c.in-Ok.begun c.in-Ok.ensures.begins
 
 begun : goal.returns-in-Ok-take_seats-clause-begins
 begun g c =
@@ -16,10 +18,12 @@ begun g c =
     let long = crew_length made.work made.users.items made.others.items in
     let same = ap (λ (l : List (Actor g.row.R.Denot)). length l) c.in-Ok-take_seats.ensures.crew in
     let room = c.in-Ok-take_seats.ensures.room in
-    own_begins g.L.Sectors.seen g.D.Sectors.seen g.R.Receiver.stands_for c.args.opened c.args.script.now c.args.log_only
-    c.args.followers.items c.in-Ok.begun
-    (subst (λ (b : Bool). BeginsWith g.L.Sectors.seen g.D.Sectors.seen g.R.Receiver.stands_for c.args.opened
-    c.args.script.now c.args.log_only b c.args.followers.items c.in-Ok.begun) c.is_some-archives.ensures
+    let many : c.len.result ≡ length c.args.followers.items = let n = c.len.ensures in omega arith in
+    own_begins g.L.Sectors.seen g.D.Sectors.seen g.R.Receiver.stands_for c.args.opened c.args.script.now
+    (plan_with c.args.log_only c.args.archive c.args.followers.items) c.args.followers.items c.in-Ok.begun
+    (subst (λ (p : Plan). BeginsWith g.L.Sectors.seen g.D.Sectors.seen g.R.Receiver.stands_for c.args.opened
+    c.args.script.now p c.args.followers.items c.in-Ok.begun)
+    (λ i. record { log_only = c.args.log_only; archive = c.is_some.ensures i; followers = many i })
     c.in-Ok.ensures.begins) c.requires.may _ refl refl
     c.in-Ok-take_seats.ensures.crew c.in-Ok-take_seats.ensures.at_home
     (record { empty = room.0; enough = (let enough = room.1 in omega arith) })
