@@ -8,7 +8,7 @@ import os
 import re
 import sys
 
-WORDS, SENTENCE, CELL, README_LINES = 16_500, 25, 25, 90
+WORDS, SENTENCE, CELL, README_LINES = 16_500, 25, 25, 105
 TOP = os.path.dirname(os.path.dirname(os.path.realpath(__file__)))
 
 

@@ -13,7 +13,7 @@ abbrev pub IsPageAsOf : List Content → List Whole → PageRead → Type 0
 IsPageAsOf opened wholes r = (page : Content) → slice_get opened r.page ≡ Some page
     → r.bytes ≡ (upto r.page r.lsn wholes page).user
 
--- THE READ CAME TO THAT: the page as of its lsn, or a code other than 0, where the run's own isn't 0 at its end.
+-- THE READ CAME TO THAT in the run: to the page as of its lsn, or to a code other than 0, and the run leaves one.
 abbrev pub IsReadEndOf : List Content → List Whole → (code : ℕ) → ReadEnd → Type 0
 IsReadEndOf opened wholes code (Page r) = IsPageAsOf opened wholes r
 IsReadEndOf opened wholes code (Failed met) = (0 < met) × (0 < code)

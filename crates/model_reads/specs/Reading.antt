@@ -1,4 +1,4 @@
--- What holds of a page that is being read, and of one that was, between any two turns. Marks are lsns.
+-- What holds of a page that is being read, and of what a read came to, between any two turns. Marks are lsns.
 use Rattle.std.specs.Prelude.{List, length, slice_index, take, true, ℕ, ◌*◌, ◌<◌, ◌≡◌, ◌≤◌, ◌⊎◌}
 use Rattle.std.specs.List.{AllByRecursion}
 use Rattle.model_core.specs.{Entry, failed_at, index, layout_of, lsn, sn_at, frame_bytes, Setup}
@@ -43,7 +43,7 @@ module _ (c : Setup) (ws : List ℕ) (log : List Entry) where
     pub upto : r.lsn ≤ top_in ws
     pub bytes : r.bytes ≡ user_part (take c.page_size (applied_upto r.page r.lsn log (c.opened r.page).bytes))
 
-  -- A READ CAME TO THAT: a page that was read, or a code other than 0, since when FAILED hasn't been 0.
+  -- A READ CAME TO THAT: to a page that was read, or to a code other than 0, and FAILED isn't 0.
   abbrev pub ReadEndFits : ReadEnd → Type 0
   ReadEndFits (Page r) = IsRead r
   ReadEndFits (Failed code) = (0 < code) × (0 < slice_index ws failed_at)

@@ -1,5 +1,5 @@
 //! Pages that are read beside the turns of a running store, as definitions: what whoever reads a page knows between its
-//! loads, and what it has read. Each turn of any actor keeps that. Nothing runs here.
+//! loads, and what a read came to. Each turn of any actor keeps that. Nothing runs here.
 #![tactic(auto)]
 
 mod read;

@@ -20,7 +20,7 @@ pub struct PageRead {
     pub bytes: LinkedList<u8>,
 }
 
-/// What a read came to: a page that was read, or a code with which the run had failed.
+/// What a read came to: a page that was read, or the code of a failure.
 #[derive(Drop)]
 pub enum ReadEnd {
     Page(PageRead),

@@ -143,6 +143,7 @@ module _ {L D : Type 0} (store : Store L D) (old mid new : User L D) (line : Scr
     lines = (program_line store line ∷ [], its_lines);
     starts = its_starts;
     answered = (let k = ap (λ (s : UserState). s.k) its_state in let l = played.answered in omega arith);
+    failed = λ step. absurd (let done = sym took.done ∙ step in cc);
     reads = ([], played.reads ∙ took.reads ∙ sym (append-nil (reads_of old)));
   }
 

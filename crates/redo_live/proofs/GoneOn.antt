@@ -21,6 +21,7 @@ module _ {L D : Type 0} where
     lines = ([], ap (λ s. s.lines) same ∙ sym (append-nil (state_of old).lines));
     starts = ([], ap (λ s. s.starts) same ∙ sym (append-nil (state_of old).starts));
     answered = (let e = ap (λ s. s.k) same in omega arith);
+    failed = λ _. same;
     reads = (more, reads);
   }
 
@@ -41,6 +42,7 @@ module _ {L D : Type 0} where
           ∙ append_assoc (state_of old).starts first.starts.0 then.starts.0,
     );
     answered = (let a = first.answered in let b = then.answered in omega arith);
+    failed = λ step. let same = first.failed step in then.failed (ap (λ s. s.step) same ∙ step) ∙ same;
     reads = (
       first.reads.0 ++ then.reads.0,
       then.reads.1 ∙ ap (λ (l : List ReadEnd). l ++ then.reads.0) first.reads.1

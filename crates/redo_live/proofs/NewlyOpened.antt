@@ -100,7 +100,7 @@ no_idle_user shape users start log_only i u far at =
     let blocks = (run_layout shape).blocks in
     let m = many_idle blocks users in
     let all : List model.Actor = map model.User (idle_users blocks users) ++ other_actors shape start
-        (live_plan log_only) in
+    (live_plan log_only) in
     behind_users (idle_users blocks users) (other_actors shape start (live_plan log_only))
     (other_user shape start log_only) i u (omega arith)
     (ap (λ (l : List model.Actor). get_elem? l i) (sym (append-nil all)) ∙ at)

@@ -23,7 +23,7 @@ use Rattle.model_reads.specs.declared.read.ReadEnd.{ReadEnd}
 use Rattle.model_reads.specs.declared.read.ReadEnd.TheVariants as read_end
 use Rattle.model_reads.specs.{IsReadEndOf}
 use Rattle.model_report.specs.{wholes_of}
-use Rattle.model_running.specs.Schedule as schedule
+use Rattle.model_running.specs.Schedule.{HasEnded}
 use Rattle.model_script.specs.declared.misfit.TheConstants.{MAX_USERS}
 use Rattle.redo_disk.specs.{Call}
 use Rattle.redo_disk.specs.Sight.{Seen}
@@ -46,7 +46,8 @@ use Rattle.redo_ownrule.specs.declared.player.Player.{Player}
 use Rattle.redo_ownrule.specs.declared.player.Player.TheVariants as player
 use Rattle.redo_rule.specs.Mine.{heard_in, heard_of, number_in, number_of}
 use Rattle.redo_rule.specs.Plays.{Carries, MayGo}
-use Rattle.redo_rule.specs.Reading.{HasEnded, HasOwnBelow, HasReadPage, MayRead, numbered_heard, view_heard, with_read}
+use Rattle.redo_rule.specs.Reading.{HasOwnBelow, HasReadPage, MayRead, numbered_heard, view_heard, with_read}
+use Rattle.redo_rule.specs.Reading as rule
 use Rattle.redo_rule.specs.Seating.{IsSeatOf}
 use Rattle.redo_rule.specs.declared.closing.Left.{Left}
 use Rattle.redo_rule.specs.declared.law.Heard.{Heard}
@@ -158,7 +159,7 @@ module _ {L D : Type 0} (store : Store L D) (old : User L D) (was : IsUserOf sto
         layout = layout_same ∙ was.layout;
         number = ap (λ (u : UserState). u.user) same ∙ was.number ∙ ap (λ (n : ℕ). n + 1) (sym number_same);
         few = subst (λ (u : UserState). u.user ≤ MAX_USERS) (sym same) was.few;
-        ended = subst schedule.HasEnded (sym same) was.ended;
+        ended = subst HasEnded (sym same) was.ended;
         used = used ∙ was.used ∙ ap (λ (u : UserState). lengths u.lines) (sym same);
         within = (let w = was.within in omega arith);
       };
@@ -186,7 +187,7 @@ module _ {L D : Type 0} (store : Store L D) (old : User L D) (was : IsUserOf sto
 
   -- THE RUN HAS FAILED
   module _ (new : User L D) (plays : new.player ≡ old.player) (used : new.used ≡ old.used) (code : ℕ)
-      (o : HasEnded old.seat (read_end.Failed code) new.seat) where
+      (o : rule.HasReadSo old.seat (read_end.Failed code) new.seat) where
     pub failed_stays : Stays store old new
     failed_stays = so_stays new plays used (read_end.Failed code) o.of (o.is who sits)
 

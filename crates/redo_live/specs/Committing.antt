@@ -43,8 +43,8 @@ module _ {L D : Type 0} where
     pub sits : IsPlayerSeat (table_of store.shared) user.seat user.player
     pub layout : user.seat.me.0.layout ≡ store.shared.layout
 
-  -- it has played to its end: it keeps its lines, its number, its groups, its answers, its seat and the pages that it
-  -- has read, and has done all lines or has failed
+  -- it has played to its end: it keeps its lines, its number, its groups, its answers, its seat and what its reads came
+  -- to, and has done all lines or has failed
   pub record HasPlayed (store : Store L D) (u : UserState) (old new : User L D) : Type 0 where
     pub state : UserState
     pub now : MayPlay store state new

@@ -38,14 +38,18 @@ pub fn commits_go_on<L: Sectors, D: Sectors>()
 {}
 
 /// A commit that was answered is kept: the history that the store leaves has it as that of its user's line, with the group of
-/// its operations and the end that was answered, however the user went on from there.
+/// its operations and the end that was answered, however the user went on from there. Where a commit was refused by a
+/// failure, the store leaves a code.
 pub fn commit_is_kept<L: Sectors, D: Sectors>()
-    ensures { (store : Store L D) (users : List (User L D)) (left : Left L D) (old new last : User L D) (i mode end : ℕ)
+    ensures kept { (store : Store L D) (users : List (User L D)) (left : Left L D) (old new last : User L D) (i mode end : ℕ)
         (items : List Item) → IsOpen store → HasCommitted store old mode items new end
         → HasGoneOn new last → get_elem? users i ≡ some last
         → (leaves : LeavesStore L.seen L.gives D.seen D.gives store users left)
         → IsKeptCommit leaves.leaves.script (shape_of store).space leaves.leaves.history (state_of last).user
         (length (state_of old).lines) mode items end }
+    ensures failed { (store : Store L D) (users : List (User L D)) (left : Left L D) (old new last : User L D)
+        (i mode code : ℕ) (items : List Item) → IsRefusedSo store old mode items (Device code) new → HasGoneOn new last
+        → get_elem? users i ≡ some last → LeavesStore L.seen L.gives D.seen D.gives store users left → left.code ≢ 0 }
 {}
 
 /// A page that was read is kept: what was answered is that page of the history that the store leaves, as of the lsn that was

@@ -1,4 +1,5 @@
-//! A live store: commits come while it runs, from threads of the program's own, which read its pages too.
+//! A live store: commits come while it runs, from threads of the program's own, which read its pages too. A group is the unit:
+//! there is no rollback, and no isolation but a group's own.
 //!
 //! `Store::open` gives an open store, its users and its workers. `Store::serve` has each user do a program's `Work` in a thread
 //! of its own, while the workers run in theirs. Or a program lends the store to its own threads: in each of these a user commits,
@@ -15,8 +16,8 @@
 //!
 //! The history that it leaves has each commit that was answered, where the answer said (`commit_is_kept`). What a crash
 //! leaves of its devices is read as a prefix of that history (`called_store_is_read`), which reaches each commit that was
-//! answered once its group was flushed (`flushed_commit_is_read`). Both speak of users that came back. Each group of a user that was
-//! dropped is in the history whole, or not at all, and no clause tells which of its commits were answered. Nor does one say that a
+//! answered once its group was flushed (`flushed_commit_is_read`). Commits and reads are those of users that came back. Each group of
+//! a user that was dropped is in the history whole, or not at all, and no clause tells which of its commits were answered. Nor does one say that a
 //! commit is ever answered, since threads may not run.
 #![tactic(auto)]
 

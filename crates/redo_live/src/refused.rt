@@ -18,7 +18,7 @@ pub enum Refused {
     #[error("the log runs alone, so there are no pages")]
     LogOnly,
     /// The run has failed with this code. The user of a commit has failed with it: its group may be in the log or not, and each
-    /// later commit of the user is refused so. A page is refused so where an actor has it that has failed.
+    /// later commit of the user is refused so. A page is refused so where it couldn't be read at once: it may be free later.
     #[error("the run has failed with code {0}")]
     Device(u32),
 }

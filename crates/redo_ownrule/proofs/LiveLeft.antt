@@ -85,7 +85,7 @@ kept_group marks u history are k below answered = record {
 module _ {L D R : Type 0} (log_seen : L → Seen) (log_gives : L → Call → L → Type 0) (data_seen : D → Seen)
     (data_gives : D → Call → D → Type 0) (about : About L D) (live : Live) (is_live : about.live ≡ Some live)
     (no_script : about.script.value ≡ []) (apart : about.plan.archive ≡ false)
-        (runnable : IsRunnable about.opened.value)
+    (runnable : IsRunnable about.opened.value)
     (heard : ℕ → Heard) (actors : List (Actor R)) (left : Left L D)
     (P : LeavesParts log_seen log_gives data_seen data_gives about heard (views_of actors) left) where
   abbrev script : List ScriptLine

@@ -213,25 +213,25 @@ module _ {L D R : Type 0} (log_seen : L → Seen) (data_seen : D → Seen) (stan
     (about : About L D) (live : Live) (alive : about.live ≡ Some live)
     (kept : about.plan ≡ live_plan about.plan.log_only) (opened : Opened L D) (opened_is : about.opened.value ≡ opened)
     (start : Beginning L D R) (B : BeginsLive log_seen data_seen stands opened live.users about.plan.log_only start)
-        where
-  pub about_live : BeginsLive log_seen data_seen stands about.opened.value live.users about.plan.log_only start
-  about_live = subst (λ (o : Opened L D). BeginsLive log_seen data_seen stands o live.users about.plan.log_only start)
-      (sym opened_is) B
+  where
+    pub about_live : BeginsLive log_seen data_seen stands about.opened.value live.users about.plan.log_only start
+    about_live = subst (λ (o : Opened L D). BeginsLive log_seen data_seen stands o live.users about.plan.log_only start)
+        (sym opened_is) B
 
-  starts_count : length (starts_about about)
-      ≡ length (live_actors opened.shape live.users opened.start (live_plan about.plan.log_only))
-  starts_count =
-      ap (λ (l : List model.Actor). length l)
-      (ap (starts_with about) alive
-      ∙ ap (live_actors about.opened.value.shape live.users about.opened.value.start) kept
-      ∙ ap (λ (o : Opened L D). live_actors o.shape live.users o.start (live_plan about.plan.log_only)) opened_is)
+    starts_count : length (starts_about about)
+        ≡ length (live_actors opened.shape live.users opened.start (live_plan about.plan.log_only))
+    starts_count =
+        ap (λ (l : List model.Actor). length l)
+        (ap (starts_with about) alive
+        ∙ ap (live_actors about.opened.value.shape live.users about.opened.value.start) kept
+        ∙ ap (λ (o : Opened L D). live_actors o.shape live.users o.start (live_plan about.plan.log_only)) opened_is)
 
-  pub about_short : lsn (sn_of opened.start
-      + length (live_actors opened.shape live.users opened.start (live_plan about.plan.log_only)) * live.quota)
-          < LSN_LIMIT
-      → lsn (about_live.run.setup.base + length (starts_about about) * live.quota) < LSN_LIMIT
-  about_short low =
-      subst (λ (n : ℕ). lsn (n + length (starts_about about) * live.quota) < LSN_LIMIT)
-      (base_is about_live.run.setup.base opened.start
-      (about_live.is_run.start ∙ ap (λ (o : Opened L D). o.start) opened_is))
-      (subst (λ (n : ℕ). lsn (sn_of opened.start + n * live.quota) < LSN_LIMIT) (sym starts_count) low)
+    pub about_short : lsn (sn_of opened.start
+        + length (live_actors opened.shape live.users opened.start (live_plan about.plan.log_only)) * live.quota)
+        < LSN_LIMIT
+        → lsn (about_live.run.setup.base + length (starts_about about) * live.quota) < LSN_LIMIT
+    about_short low =
+        subst (λ (n : ℕ). lsn (n + length (starts_about about) * live.quota) < LSN_LIMIT)
+        (base_is about_live.run.setup.base opened.start
+        (about_live.is_run.start ∙ ap (λ (o : Opened L D). o.start) opened_is))
+        (subst (λ (n : ℕ). lsn (sn_of opened.start + n * live.quota) < LSN_LIMIT) (sym starts_count) low)

@@ -238,7 +238,7 @@ module _ {L D : Type 0} (log_seen : L → Seen) (log_gives : L → Call → L �
           maybe.some a → get_elem? actors n ≡ maybe.some b
           → HasGot stands (follower_of a) (groups_of (view_of b) P.runs.running.log_ghost.log) (follower_of b))
           → LeavesAs log_seen log_gives data_seen data_gives stands about.opened.value script live about.plan starts
-              actors closed
+          actors closed
       leaves_from stands starts count same got = record {
         run = P.run;
         is_run = is_run;

@@ -252,28 +252,25 @@ module _ {L D : Type 0} (log_seen : L → Seen) (log_gives : L → Call → L �
   pub check_allows : (i : ℕ) → i ≡ index me.0.layout word.Failed → Allows Law slots id me i (λ n. n) (checks me)
   check_allows i is = allows (checks me) i (λ s R at. by s R at (ℕ_discrete (slice_index s.words i) 0))
     where
-      abbrev loaded : State (Slot L D) (View L D) → ℕ
-      loaded s = slice_index s.words i
-
       is_small : (s : State (Slot L D) (View L D)) (R : Law s) → get_elem? s.views id ≡ maybe.some me.0
-          → loaded s < 2 ^ 32
+          → slice_index s.words i < 2 ^ 32
       is_small s R at = subst (λ (n : ℕ). n < 2 ^ 32)
           (sym (its_word log_seen log_gives data_seen data_gives about s R id me.0 x sits at word.Failed i is))
           (small_code log_seen data_seen R.run R.parts R.actors R.runs)
 
       by : (s : State (Slot L D) (View L D)) (R : Law s) → get_elem? s.views id ≡ maybe.some me.0
-          → Dec (loaded s ≡ 0) → Picks (checks me) (loaded s) s R
-      by s R at (yes none) = idle (checks me) (loaded s) s R at
+          → Dec (slice_index s.words i ≡ 0) → Picks (checks me) (slice_index s.words i) s R
+      by s R at (yes none) = idle (checks me) (slice_index s.words i) s R at
           (is_small s R at, (λ z. refl), (λ some. absurd (some none)))
       by s R at (no some) =
           let word_is = its_word log_seen log_gives data_seen data_gives about s R id me.0 x sits at word.Failed i is in
           record {
-            heard = with_read x.heard (Failed (loaded s));
+            heard = with_read x.heard (Failed (slice_index s.words i));
             groups = refl;
             blocks = refl;
             has = record {
               done = all_snoc (ReadEndFits R.run.setup R.parts.words.words R.runs.running.log_ghost.log) x.heard.reads
-                  (Failed (loaded s))
+                  (Failed (slice_index s.words i))
                   (its_reads log_seen log_gives data_seen data_gives about s R id me.0 x sits at).done
                   (omega arith, omega arith);
               now = tt;
@@ -282,7 +279,7 @@ module _ {L D : Type 0} (log_seen : L → Seen) (log_gives : L → Call → L �
               is_small s R at,
               (λ none. absurd (some none)),
               (λ z y one. let seat : ◌≡◌ {A = Numbered} x y = one_head me.0.seats x y sits one in
-                  λ j. (view_heard me.0 (seat j) (with_read (seat j).heard (Failed (loaded s))), me.1)),
+                  λ j. (view_heard me.0 (seat j) (with_read (seat j).heard (Failed (slice_index s.words i))), me.1)),
             );
           }
 

@@ -19,7 +19,7 @@ use Rattle.model_reads.specs.declared.read.ReadEnd.{ReadEnd}
 use Rattle.model_reads.specs.declared.read.ReadEnd.TheVariants.{Failed, Page}
 use Rattle.redo_rule.proofs.Retook.{one_head}
 use Rattle.model_reads.specs.{added, dated, freed, read_of}
-use Rattle.redo_rule.specs.Reading.{adds, checks, dates, ends, frees, Glanced, glancing, HasEnded, HasOwnBelow, HasReadNone, HasReadPage, HasUserBytes, IsAt, IsReading, lane_at, MayRead, numbered_heard, view_heard, view_seats, with_glance, with_read}
+use Rattle.redo_rule.specs.Reading.{adds, checks, dates, ends, frees, Glanced, glancing, HasReadSo, HasOwnBelow, HasReadNone, HasReadPage, HasUserBytes, IsAt, IsReading, lane_at, MayRead, numbered_heard, view_heard, view_seats, with_glance, with_read}
 use Rattle.redo_rule.specs.declared.law.Heard.{Heard}
 use Rattle.redo_rule.specs.declared.law.Numbered.{Numbered}
 use Rattle.redo_rule.specs.declared.law.Slot.{Slot}
@@ -120,7 +120,7 @@ module _ {L D : Type 0} (table : TableId) (layout : Layout) (page : ℕ) where
   }
 
   pub ended_on : (s t u : Seat (Slot L D) (View L D)) (k : Glance) (r : ReadEnd) → MayRead table s layout page
-      → Glanced s k t → HasEnded t r u → HasEnded s r u
+      → Glanced s k t → HasReadSo t r u → HasReadSo s r u
   ended_on s t u k r o one two = record {
     of = two.of ∙ one.of;
     id = two.id ∙ one.id;
@@ -165,7 +165,7 @@ module _ {L D : Type 0} (s t : Seat (Slot L D) (View L D)) (of : t.table_id ≡ 
   pub unfailed_then : n ≡ 0 → HasReadNone s t
   unfailed_then none = none_still s t of id (then.1 none)
 
-  pub failed_then : n ≢ 0 → HasEnded s (Failed n) t
+  pub failed_then : n ≢ 0 → HasReadSo s (Failed n) t
   failed_then some = record { of = of; id = id; is = then.2 some }
 
 -- and whatever is done then is done behind that
@@ -191,7 +191,7 @@ module _ {L D : Type 0} (s t u : Seat (Slot L D) (View L D)) (one : HasReadNone 
         (then.0, then.1 ∙ view_then x sits (glancing x.heard then.0));
   }
 
-  pub ended_behind : (r : ReadEnd) → HasEnded t r u → HasEnded s r u
+  pub ended_behind : (r : ReadEnd) → HasReadSo t r u → HasReadSo s r u
   ended_behind r two = record {
     of = two.of ∙ one.of;
     id = two.id ∙ one.id;
@@ -239,7 +239,7 @@ module _ {L D : Type 0} (table : TableId) (layout : Layout) (page : ℕ) (s t : 
   held_then n then held = glanced_self table layout page s g o t of id
       ((then o.may.who g (its_reading o.may.who o.may.sits)).1 held)
 
-  pub ended_then : (n : ℕ) → ends s.me n t.me → n ≡ g.newest → HasEnded s (Page (read_of g)) t
+  pub ended_then : (n : ℕ) → ends s.me n t.me → n ≡ g.newest → HasReadSo s (Page (read_of g)) t
   ended_then n then same = record { of = of; id = id; is = λ x sits. (then x g (its_reading x sits)).0 same }
 
   pub moved_then : (n : ℕ) → ends s.me n t.me → n ≢ g.newest → Glanced s g t

@@ -14,7 +14,7 @@ use Rattle.model_reads.specs.{added, begun, dated, freed, read_of}
 use Rattle.model_reads.specs.declared.read.Glance.{Glance}
 use Rattle.model_reads.specs.declared.read.ReadEnd.TheVariants.{Page}
 use Rattle.redo_rule.proofs.LoadsOn.{at_then, ended_on, glanced_on, next_bytes, none_by, user_bytes_are}
-use Rattle.redo_rule.specs.Reading.{Glanced, HasAllWords, HasEnded, HasOwnBelow, HasReadNone, HasReadPage, IsAt, lane_at, looked, MayRead, numbered_heard, view_heard, with_glance, with_read}
+use Rattle.redo_rule.specs.Reading.{Glanced, HasAllWords, HasReadSo, HasOwnBelow, HasReadNone, HasReadPage, IsAt, lane_at, looked, MayRead, numbered_heard, view_heard, with_glance, with_read}
 use Rattle.redo_rule.specs.declared.law.Numbered.{Numbered}
 use Rattle.redo_rule.specs.declared.law.Slot.{Slot}
 use Rattle.redo_rule.specs.declared.law.View.{View}
@@ -109,7 +109,7 @@ module _ {L D : Type 0} (table : TableId) (layout : Layout) (page : ℕ) (old : 
         pub has_read : ((x : Numbered) → t2.me.0.seats ≡ x ∷ [] → HasOwnBelow x.actor sn)
             → length bytes + frame_length ≡ size → (as_of : ℕ) → as_of ≡ lsn sn
             → (t5 : Seat (Slot L D) (View L D))
-            → HasEnded t4 (Page (read_of (freed (dated (looked page newest two.words) sn)))) t5
+            → HasReadSo t4 (Page (read_of (freed (dated (looked page newest two.words) sn)))) t5
             → HasReadPage old page as_of bytes t5
         has_read own long as_of as_of_is t5 five =
             let all = ended_on table layout page old t4 t5 as_freed (Page (read_of as_freed)) may freed_on five in

@@ -113,12 +113,12 @@ pub record IsToldOf {L D R : Type 0} (log_seen : L → Seen) (data_seen : D → 
     (about : About L D) (script : List ScriptLine) (live : Bool) (followers : List (Following R))
     (firsts : List model.Actor) (start : Beginning L D R)
     (B : BeginsOn log_seen data_seen stands about.opened.value script live about.plan followers firsts start) : Type 0
-        where
-  pub script_is : script ≡ about.script.value
-  pub live_is : is_some about.live ≡ live
-  pub firsts_are : ◌≡◌ {A = List model.Actor} firsts (starts_about about)
-  pub room : (l : Live) → about.live ≡ Some l
-      → HasRoom l about.opened.value.shape script (length (starts_about about)) B.run.setup
+  where
+    pub script_is : script ≡ about.script.value
+    pub live_is : is_some about.live ≡ live
+    pub firsts_are : ◌≡◌ {A = List model.Actor} firsts (starts_about about)
+    pub room : (l : Live) → about.live ≡ Some l
+        → HasRoom l about.opened.value.shape script (length (starts_about about)) B.run.setup
 
 module _ {L D R : Type 0} (log_seen : L → Seen) (data_seen : D → Seen) (stands : R → List Given → Type 0)
     (about : About L D) (script : List ScriptLine) (live : Bool) (followers : List (Following R))

@@ -1,5 +1,5 @@
 -- What the actors of a run have handed on: followers groups, to their receivers, and the archiver blocks, to its archive; and
--- which pages were read in their seats.
+-- what reads in their seats came to.
 use Rattle.std.specs.Prelude.{IfSome, List, None, [], cond, slice_index, ℕ, ◌++◌, ◌∷◌, ◌≡◌, ◌≤◌}
 use Rattle.std.specs.List.{AllByRecursion}
 use lib.ListN.{get_elem?}

@@ -159,7 +159,7 @@ looked page n words = record { page = page; newest = n; words = words; upto = n;
 
 module _ {L D : Type 0} where
   -- THE READ HAS COME TO THIS in the seat, and all else is as it was
-  pub record HasEnded (old : Seat (Slot L D) (View L D)) (r : ReadEnd) (new : Seat (Slot L D) (View L D)) : Type 0 where
+  pub record HasReadSo (old : Seat (Slot L D) (View L D)) (r : ReadEnd) (new : Seat (Slot L D) (View L D)) : Type 0 where
     pub of : new.table_id ≡ old.table_id
     pub id : new.id ≡ old.id
     pub is : (x : Numbered) → old.me.0.seats ≡ x ∷ []

@@ -7,7 +7,7 @@ ghost use Rattle.model_core.specs.declared.limits.TheConstants.{WORD_LANES};
 ghost use Rattle.model_reads.specs.{added, begun, dated, freed, read_of};
 ghost use Rattle.model_reads.specs.declared.read.Glance.{Glance};
 ghost use Rattle.model_reads.specs.declared.read.ReadEnd.TheVariants.{Failed, Page};
-ghost use Rattle.redo_rule.specs.Reading.{Glanced, HasAllWords, HasEnded, HasOwnBelow, HasReadNone, HasReadPage, IsAt, MayRead, adds, begins, checks, dates, ends, frees, lane_at};
+ghost use Rattle.redo_rule.specs.Reading.{Glanced, HasAllWords, HasReadSo, HasOwnBelow, HasReadNone, HasReadPage, IsAt, MayRead, adds, begins, checks, dates, ends, frees, lane_at};
 ghost use Rattle.redo_rule.specs.declared.law.Numbered.{Numbered};
 
 use crate::law::{Ring, Seat, Slot, View};
@@ -150,7 +150,7 @@ fn end<L: Sectors, D: Sectors>(
     page: u32,
 ) -> u64
     requires at { (g : Glance) × IsAt table.now.table_id token.old layout page g × (g.seen_free ≡ true) × (WORD_LANES * length g.words ≡ layout.page_size) }
-    ensures same { (g : Glance) → IsAt table.now.table_id token.old layout page g → result ≡ g.newest → HasEnded token.old (Page (read_of g)) token.new }
+    ensures same { (g : Glance) → IsAt table.now.table_id token.old layout page g → result ≡ g.newest → HasReadSo token.old (Page (read_of g)) token.new }
     ensures other { (g : Glance) → IsAt table.now.table_id token.old layout page g → result ≢ g.newest → Glanced token.old g token.new }
 {
     table.load::<Ended>(token, number_of(layout, Word::Newest(page)) as usize)
@@ -197,7 +197,7 @@ pub fn failure<L: Sectors, D: Sectors>(
     layout: Layout,
 ) -> Option<u32>
     requires { (page : ℕ) × MayRead table.now.table_id token.old layout page }
-    ensures read { MatchOption result (HasReadNone token.old token.new) (λ code. HasEnded token.old (Failed code) token.new) }
+    ensures read { MatchOption result (HasReadNone token.old token.new) (λ code. HasReadSo token.old (Failed code) token.new) }
     ensures code { IfSome result (λ code. code ≢ 0) }
 {
     match table.load::<Checked>(token, number_of(layout, Word::Failed) as usize) {
