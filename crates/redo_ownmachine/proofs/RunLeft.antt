@@ -1,5 +1,5 @@
 -- What a run by turns leaves whose users write for themselves, and so what it comes to.
-use Rattle.std.proofs.Common.{Bool, List, Option, ap, is_some, length, refl, slice_index, subst, suc, sym, true, zero, ⊎_elim, ℕ, ◌∙◌, ◌≡◌}
+use Rattle.std.proofs.Common.{List, Option, ap, is_some, refl, slice_index, subst, suc, sym, true, zero, ⊎_elim, ℕ, ◌∙◌, ◌≡◌}
 use lib.ListN.{get_elem?}
 use Rattle.model_base.specs.declared.shape.Shape.{Shape}
 use Rattle.model_core.specs.{filled, Given, lent, lsn, next, failed_at}
@@ -23,7 +23,6 @@ use Rattle.redo_drive.specs.Drive.{HasMetError, Owes}
 use Rattle.redo_drive.specs.Followed.{HaveFollowed}
 use Rattle.redo_drive.specs.Leaving.{LeavesWith}
 use Rattle.redo_drive.specs.LogPartSide as log_part
-use Rattle.redo_drive.specs.Setups.{seated_actors}
 use Rattle.redo_drive.specs.declared.actor.Actor.{Actor}
 use Rattle.redo_drive.specs.declared.drive.Driven.{Driven}
 use Rattle.redo_drive.specs.declared.drive.RunEnd.{RunEnd}
@@ -262,4 +261,4 @@ module _ {L D A R : Type 0} {arch_gives : A → Call → A → Type 0} (log_seen
       driven.closed (views_of l) before by.last.archive) (sym by.actors_are)
       (have_archived log_seen log_gives data_seen data_gives arch_seen arch_gives stands opened script
       (plan_with turns.log_only before followers) starts ending driven leaves before by.last.archive by.comes.come
-          by.lost)
+      by.lost)
