@@ -58,7 +58,7 @@ loop-preserved g c = record {
   used = c.loop.invariant.used;
   none = none_on c.args.self.now.seat c.look.new.token c.failure.new.token
       (none_on c.args.self.now.seat c.loop.self.seat c.look.new.token c.loop.invariant.none c.in_default.ensures.read)
-      c.in_default-2.ensures.read;
+      c.in_default-failure.ensures.read;
 }
 
 pub returns-in-Some-failure-clause-mine : goal.returns-in-Some-failure-clause-mine
