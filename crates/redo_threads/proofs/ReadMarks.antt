@@ -1,6 +1,6 @@
 -- What reads give of the devices that a run leaves, archived or not, of which no call answered an error: the log ends at WRITE, and its
 -- newest checkpoint is CKPT.
-use Rattle.std.proofs.Common.{Bool, List, None, Option, Some, ap, arith, subst, sym, ⊎_elim, ℕ, ◌∙◌, ◌≡◌}
+use Rattle.std.proofs.Common.{List, None, Option, Some, ap, arith, subst, sym, ⊎_elim, ℕ, ◌∙◌, ◌≡◌}
 use Rattle.std.specs.Prelude.{IfSome}
 use lib.ListN.{get_elem?}
 use mathlib.Core.Option.{some}
