@@ -1,5 +1,5 @@
 -- What a run in threads owes and tells, of the store that was opened.
-use Rattle.std.proofs.Common.{Bool, List, Option, ap, length, refl, subst, sym, ℕ, ◌∙◌, ◌≡◌}
+use Rattle.std.proofs.Common.{List, Option, ap, length, refl, subst, sym, ◌∙◌, ◌≡◌}
 use Rattle.model_core.specs.States as model
 use Rattle.model_core.specs.{Given}
 use Rattle.model_running.specs.Schedule.{HaveEnded}

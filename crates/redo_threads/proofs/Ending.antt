@@ -24,7 +24,6 @@ use Rattle.redo_store.specs.declared.opened.Opened.{Opened}
 use Rattle.model_script.specs.declared.script.ScriptLine.{ScriptLine}
 use Rattle.redo_threads.specs.InThreads.{HaveAnswered}
 use Rattle.redo_threads.specs.Working.{AreAtEnd, AtEnd, IsUserOver}
-use Rattle.std.specs.Prelude.{Bool}
 
 module _ {F : Type 0} where
   -- below this number each has come to its end

@@ -1,6 +1,6 @@
 -- What reads give of the devices that a run leaves, archived or not, of which no call answered an error: the log ends at WRITE, and its
 -- newest checkpoint is CKPT.
-use Rattle.std.proofs.Common.{Bool, List, None, Option, Some, ap, arith, subst, sym, ⊎_elim, ℕ, ◌∙◌, ◌≡◌}
+use Rattle.std.proofs.Common.{List, None, Option, Some, ap, arith, subst, sym, ⊎_elim, ℕ, ◌∙◌, ◌≡◌}
 use Rattle.std.specs.Prelude.{IfSome}
 use lib.ListN.{get_elem?}
 use mathlib.Core.Option.{some}
@@ -70,7 +70,7 @@ module _ {L D R : Type 0} (log_seen : L → Seen) (log_gives : L → Call → L 
   unfolding stands_for_run
   reads_marks kept rest log_live data_live reading as_read =
       where_started log_seen log_gives data_seen data_gives stands opened script plan starts actors driven by reading
-          as_read _
+      as_read _
       (λ log_disk data_disk start begun. if_told (log_seen driven.closed.log.dev).tells _ (λ log_now log_told.
       if_told (data_seen driven.closed.store.dev).tells _ (λ data_now data_told left is.
       let R = by.from.runs.running in

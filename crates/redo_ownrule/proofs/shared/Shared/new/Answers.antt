@@ -1,4 +1,4 @@
-use Rattle.std.proofs.Common.{List, None, Option, Some, ap, arith, length, refl, subst, sym, ◌∙◌, ◌≡◌}
+use Rattle.std.proofs.Common.{List, None, Option, Some, ap, arith, length, refl, subst, sym, ◌∙◌}
 use Rattle.std.specs.Prelude.{replicate}
 use Rattle.model_base.specs.declared.limits.TheConstants.{BLOCK_SIZE}
 use Rattle.model_own.specs.{LogWork}
