@@ -33,12 +33,13 @@ fn shared_of(
     ensures fixed { IfOk result (λ made. IsFixed made.0) }
 {
     let Ready { opened, script } = ready;
+    let followers = no_followers(alloc);
     let plan = Plan {
         log_only,
         archive: false,
-        followers: 0,
+        followers: followers.len() as u64,
     };
-    match Shared::new(alloc, opened, &script, plan, false, no_followers(alloc)) {
+    match Shared::new(alloc, opened, &script, plan, false, followers) {
         Ok(made) => Ok(made),
         Err(_) => Err(Fail::from("no memory")),
     }
